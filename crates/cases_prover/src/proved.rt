@@ -10,7 +10,7 @@ use batch_statement::{BatchProof, CommonData, airs_have_one_width};
 use commit_core::{PolynomialSpace, UnivariateStarkPcs};
 use law_committed::fields::baby_bear_has_laws;
 use p3_field::{BabyBear, FieldCore, Mem, RingCore, TwoAdicCore};
-use prover_answer::ProverSettings;
+use prover_answer::{Batches, ProverSettings};
 use prover_batch::prove_batch;
 use std::alloc::Global;
 use tool_shaped::are_shaped;
@@ -38,11 +38,14 @@ pub fn proved<A: Air<BabyBear>>(
 {
     baby_bear_has_laws();
     let airs = lent_airs(alloc, instances)?;
-    if !are_shaped(alloc, config, instances)? || !airs_have_one_width(alloc, &airs)? {
+    let shaped = are_shaped(alloc, config, instances)?;
+    let even = airs_have_one_width(alloc, &airs)?;
+    if !shaped || !even {
         return Ok(None);
     }
-    let Ok(data) = ProverData::<ToolConfig>::from_instances(alloc, config, instances) else {
-        return Ok(None);
+    let data = match ProverData::<ToolConfig>::from_instances(alloc, config, instances) {
+        Ok(data) => data,
+        Err(_) => return Ok(None),
     };
     match prove_batch(alloc, config, instances, &data) {
         Ok(proof) => Ok(Some(Proved {
