@@ -18,7 +18,8 @@ use Rattle.law_valid.specs.Traced.{TracedTable}
 use Rattle.air_tables.specs.Wheel.{number_in, turns, wheel_declaration, wheel_trees}
 use Rattle.tool_tables.specs.Words.{give_interactions, take_interactions, words_declaration}
 use Rattle.tool_tables.specs.declared.tool.ToolAir.{ToolAir}
-use Rattle.tool_tables.specs.declared.tool.ToolAir.TheVariants.{Swap, Wheel, Take, Give, Hash}
+use Rattle.tool_tables.specs.declared.tool.ToolAir.TheVariants.{Swap, Wheel, Words, Hash}
+use Rattle.tool_tables.specs.declared.words.WordsAir.TheVariants.{Take, Give}
 
 -- a table of a job: 2^k rows that swap, beginning with (a, b); a wheel of 2^k rows; words to take; words with how often each is given; rows of
 -- compressions, each a block of 16 words and a chaining value of 8
@@ -125,8 +126,8 @@ source_of_job r (hash_of rows) = record { declaration = blake3_declaration; tree
 abbrev pub IsAirOf : {F : Type 0} → Ring F → JobTable F → ToolAir F → Type 0
 IsAirOf r (swap_of k a b) (Swap air) = Unit {0}
 IsAirOf r (wheel_of k) (Wheel air) = (air.log_height ≡ k) × (map (λ v. v.items) air.periodic.items ≡ turns r ∷ [])
-IsAirOf r (take_of words) (Take air) = Unit {0}
-IsAirOf r (give_of pairs) (Give air) = Unit {0}
+IsAirOf r (take_of words) (Words Take) = Unit {0}
+IsAirOf r (give_of pairs) (Words Give) = Unit {0}
 IsAirOf r (hash_of rows) (Hash air) = Unit {0}
 IsAirOf r j air = ⊥
 

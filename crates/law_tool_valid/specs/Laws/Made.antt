@@ -9,7 +9,8 @@ use Rattle.batch_statement.specs.Statement.{tables_of}
 use Rattle.tool_tables.specs.Tool.{tool_declaration, tool_interactions, tool_trees}
 use Rattle.air_tables.specs.Wheel.{wheel_over, wheel_trees}
 use Rattle.tool_tables.specs.declared.tool.ToolAir.{ToolAir}
-use Rattle.tool_tables.specs.declared.tool.ToolAir.TheVariants.{Swap, Wheel, Take, Give, Hash}
+use Rattle.tool_tables.specs.declared.tool.ToolAir.TheVariants.{Swap, Wheel, Words, Hash}
+use Rattle.tool_tables.specs.declared.words.WordsAir.TheVariants.{Take, Give}
 use Rattle.law_tool_valid.specs.Job.{AreAirsOf, IsAirOf, JobTable, swap_of, wheel_of, take_of, give_of, hash_of, job_table, source_of_job}
 use Rattle.law_tool_valid.specs.Laws.Messages.{own_lookups}
 
@@ -20,8 +21,8 @@ module _ {F : Type 0} (r : Ring F) where
   air_source : (j : JobTable F) (air : ToolAir F) → IsAirOf r j air → source_of (tool_declaration r) (tool_trees r) (tool_interactions r) air ≡ source_of_job r j
   air_source (swap_of k a b) (Swap air) h = refl
   air_source (wheel_of k) (Wheel air) h = λ i. record { declaration = wheel_over r (h.0 i) (h.1 i); trees = wheel_trees; interactions = [] }
-  air_source (take_of words) (Take air) h = refl
-  air_source (give_of pairs) (Give air) h = refl
+  air_source (take_of words) (Words Take) h = refl
+  air_source (give_of pairs) (Words Give) h = refl
   air_source (hash_of rows) (Hash air) h = refl
   air_source j air h = absurd h
 

@@ -8,7 +8,8 @@ use Rattle.p3_matrix.specs.Matrix.{Rows}
 use Rattle.tool_tables.specs.Tool.{tool_declaration, tool_interactions, tool_trees}
 use Rattle.air_tables.specs.Wheel.{number_in, numbers_to, wheel_declaration, wheel_over}
 use Rattle.tool_tables.specs.declared.tool.ToolAir.{ToolAir}
-use Rattle.tool_tables.specs.declared.tool.ToolAir.TheVariants.{Swap, Wheel, Take, Give, Hash}
+use Rattle.tool_tables.specs.declared.tool.ToolAir.TheVariants.{Swap, Wheel, Words, Hash}
+use Rattle.tool_tables.specs.declared.words.WordsAir.TheVariants.{Take, Give}
 use Rattle.law_tool_valid.specs.Job.{AreAirsOf, IsAirOf, JobTable, swap_of, wheel_of, take_of, give_of, hash_of, source_of_job}
 use Rattle.batch_setup.specs.Packed.{Source, source_of}
 
@@ -45,30 +46,30 @@ module _ {F : Type 0} (r : Ring F) where
   unfolding present
   is-air (swap_of k a b) (Swap air) e = tt
   is-air (swap_of k a b) (Wheel air) e = absurd (let h = same-width e in omega (arith, h))
-  is-air (swap_of k a b) (Take air) e = absurd (let h = same-width e in omega (arith, h))
-  is-air (swap_of k a b) (Give air) e = absurd (let h = same-publics e in omega (arith, h))
+  is-air (swap_of k a b) (Words Take) e = absurd (let h = same-width e in omega (arith, h))
+  is-air (swap_of k a b) (Words Give) e = absurd (let h = same-publics e in omega (arith, h))
   is-air (swap_of k a b) (Hash air) e = absurd (let h = same-width e in omega (arith, h))
   is-air (wheel_of k) (Swap air) e = absurd (let h = same-width e in omega (arith, h))
   is-air (wheel_of k) (Wheel air) e =
       let d = ap (λ (s : Source F). s.declaration) e in
       (wheel-height air.log_height k (map (λ v. v.items) air.periodic.items) d, ap (λ (x : Declaration F). x.periodic) d)
-  is-air (wheel_of k) (Take air) e = absurd (let h = same-present e in omega (arith, h))
-  is-air (wheel_of k) (Give air) e = absurd (let h = same-width e in omega (arith, h))
+  is-air (wheel_of k) (Words Take) e = absurd (let h = same-present e in omega (arith, h))
+  is-air (wheel_of k) (Words Give) e = absurd (let h = same-width e in omega (arith, h))
   is-air (wheel_of k) (Hash air) e = absurd (let h = same-width e in omega (arith, h))
   is-air (take_of words) (Swap air) e = absurd (let h = same-width e in omega (arith, h))
   is-air (take_of words) (Wheel air) e = absurd (let h = same-present e in omega (arith, h))
-  is-air (take_of words) (Take air) e = tt
-  is-air (take_of words) (Give air) e = absurd (let h = same-width e in omega (arith, h))
+  is-air (take_of words) (Words Take) e = tt
+  is-air (take_of words) (Words Give) e = absurd (let h = same-width e in omega (arith, h))
   is-air (take_of words) (Hash air) e = absurd (let h = same-width e in omega (arith, h))
   is-air (give_of pairs) (Swap air) e = absurd (let h = same-publics e in omega (arith, h))
   is-air (give_of pairs) (Wheel air) e = absurd (let h = same-width e in omega (arith, h))
-  is-air (give_of pairs) (Take air) e = absurd (let h = same-width e in omega (arith, h))
-  is-air (give_of pairs) (Give air) e = tt
+  is-air (give_of pairs) (Words Take) e = absurd (let h = same-width e in omega (arith, h))
+  is-air (give_of pairs) (Words Give) e = tt
   is-air (give_of pairs) (Hash air) e = absurd (let h = same-width e in omega (arith, h))
   is-air (hash_of rows) (Swap air) e = absurd (let h = same-width e in omega (arith, h))
   is-air (hash_of rows) (Wheel air) e = absurd (let h = same-width e in omega (arith, h))
-  is-air (hash_of rows) (Take air) e = absurd (let h = same-width e in omega (arith, h))
-  is-air (hash_of rows) (Give air) e = absurd (let h = same-width e in omega (arith, h))
+  is-air (hash_of rows) (Words Take) e = absurd (let h = same-width e in omega (arith, h))
+  is-air (hash_of rows) (Words Give) e = absurd (let h = same-width e in omega (arith, h))
   is-air (hash_of rows) (Hash air) e = tt
 
   pub are-airs : (job : List (JobTable F)) (airs : List (ToolAir F)) → map source_of_air airs ≡ map (source_of_job r) job → AreAirsOf r job airs

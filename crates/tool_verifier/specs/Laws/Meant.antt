@@ -41,7 +41,8 @@ use Rattle.transcript_version.specs.declared.TranscriptVersion.{TranscriptVersio
 use Rattle.tool_tables.specs.Laws.Tool.{tool-read}
 use Rattle.air_tables.specs.Laws.Wheel.{wheel-read}
 use Rattle.air_tables.specs.Wheel.{turns}
-use Rattle.tool_tables.specs.declared.tool.ToolAir.TheVariants.{Swap as SwapTable, Take as TakeTable, Give as GiveTable}
+use Rattle.tool_tables.specs.declared.tool.ToolAir.TheVariants.{Swap as SwapTable, Words as WordsTable}
+use Rattle.tool_tables.specs.declared.words.WordsAir.TheVariants.{Take as Taking, Give as Giving}
 use Rattle.tool_statement.specs.Config.{tool_backend, tool_scheme, tool_setting}
 use Rattle.tool_statement.specs.StatedTables.{HaveStatedHeights, publics_of, source_of_table, air_table_of, tool_common, tool_statement}
 use Rattle.tool_statement.specs.declared.table.TableStatement.{TableStatement}
@@ -56,8 +57,8 @@ use Rattle.tool_verifier.specs.FileAnswer.{FewAreUnlucky, PrintCompressions, Swa
 table_read : (t : TableStatement) → All (ReadsDeclared (declared_shape (source_of_table t).declaration)) (source_of_table t).trees
 table_read (Swap k a b x) = tool-read baby_bear_ring (SwapTable (record {}))
 table_read (Wheel k) = wheel-read baby_bear_ring k (turns baby_bear_ring ∷ []) refl
-table_read (Take k) = tool-read baby_bear_ring (TakeTable (record {}))
-table_read (Give k) = tool-read baby_bear_ring (GiveTable (record {}))
+table_read (Take k) = tool-read baby_bear_ring (WordsTable Taking)
+table_read (Give k) = tool-read baby_bear_ring (WordsTable Giving)
 table_read (Hash k) = blake3_read baby_bear_ring
 
 module _ (version : TranscriptVersion) (tables : List TableStatement) (p : ToolProofData) (L : FieldsLaws baby_bear_field quartic_extension 27 quartic_inv) (B : Binds tool_scheme quartic_ring of_baby_bear_value)
