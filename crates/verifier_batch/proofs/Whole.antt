@@ -1,5 +1,5 @@
 -- From the call that makes a proof's claims, and the backend's check, to the checks of what is opened.
-use Rattle.std.proofs.Common.{◌≡◌, ℕ, ◌<◌, List, Result, Ok, Err, IfOk, length, map, get_or, sym, ◌∙◌, ap, subst}
+use Rattle.std.proofs.Common.{◌≡◌, ℕ, ◌<◌, List, Option, Result, Ok, Err, IfOk, length, map, get_or, sym, ◌∙◌, ap, subst}
 use Rattle.std.proofs.lemmas.List.{length-map}
 use Rattle.std.proofs.lemmas.Simd.{map-map}
 use Rattle.air_core.specs.Shape.{Declaration, width_of}
@@ -13,7 +13,7 @@ use Rattle.p3_field.specs.Ring.{Ring}
 use Rattle.batch_config.specs.Domains.{chunks_over, next_by}
 use Rattle.batch_config.specs.Setting.{Setting, Backend}
 use Rattle.batch_statement.specs.Proof.{OpenedWithLookups, ProofData}
-use Rattle.batch_statement.specs.Statement.{Statement, AirTable, WellFormed, WrittenCommon, read_common, tables_of, statement_with}
+use Rattle.batch_statement.specs.Statement.{PreprocessedTracesData, Statement, AirTable, WellFormed, WrittenCommon, read_common, tables_of, statement_with}
 use Rattle.batch_statement.specs.declared.commitments.BatchCommitments.{BatchCommitments}
 use Rattle.batch_statement.specs.declared.error.BatchVerificationError.{BatchVerificationError}
 use Rattle.batch_statement.specs.declared.error.BatchVerificationError.TheVariants.{Verification, Lookup, Transcript, OutOfMemory}
@@ -21,7 +21,7 @@ use Rattle.verifier_shape.specs.Laws.Verdicts.{refused_before, verdict_after}
 use Rattle.verifier_shape.specs.ShapeChecks.{shape_checks}
 use Rattle.batch_statement.specs.Verdict.{IsRefusal, IsVerdict}
 use Rattle.verifier_claims.specs.ClaimChecks.{made_checks}
-use Rattle.verifier_claims.specs.Claims.{Claimed, chunk_domains_at, claimed_of, claims, claims_by, commitment_in, matrix_tables}
+use Rattle.verifier_claims.specs.Claims.{Claimed, chunk_domains_at, claimed_of, claims, claims_by, commitment_in, matrix_tables, place_of_preprocessed}
 use Rattle.batch_statement.specs.Words.{bits_at}
 use Rattle.verifier_batch.specs.OpeningChecks.{shape_bounds_of, claim_checks, claimed, log_chunks_of_table, opening_checks, opens_check, preprocessed_widths}
 use Rattle.verifier_batch.proofs.Thin.{Thins}
@@ -90,6 +90,10 @@ module _ {F : Type 0} (r : Ring F) (root : ℕ → F) (generator : F) (masks : �
       subst (λ x. IfOk answer (λ w. made w ≡ x))
       (tabulate_same n (λ i. chunks_over r root generator masks (bits_at bits i) (get_or chunks i 0)) (λ i. chunks_over r root generator masks (bits_at own i) (counts i))
       (λ i l. λ j. chunks_over r root generator masks (bits_at (e j) i) (here i l j))) h
+
+pub place_moved : {T X C : Type 0} (answer : Result T X) (made : T → Option ℕ) (given own : BatchCommitments C) (preprocessed : Option (PreprocessedTracesData C)) → given ≡ own
+    → IfOk answer (λ w. made w ≡ place_of_preprocessed given preprocessed) → IfOk answer (λ w. made w ≡ place_of_preprocessed own preprocessed)
+place_moved answer made given own preprocessed e h = subst (λ x. IfOk answer (λ w. made w ≡ place_of_preprocessed x preprocessed)) e h
 
 module _ {A S F E C P : Type 0} (c : Setting S F E C) (declaration : A → Declaration F) (trees : A → List (Tree F)) (airs : List A) (publics : List (List F)) (common : WrittenCommon F C)
     (p : ProofData F E C P) where

@@ -1,8 +1,5 @@
-use Rattle.std.proofs.Common.{map, ◌∙◌, ap}
-use Rattle.std.proofs.lemmas.Result.{IfOk-weaker}
-use Rattle.verifier_claims.specs.Claims.{place_of_preprocessed}
-use Rattle.batch_statement.specs.Statement.{read_common}
-use Rattle.verifier_batch.proofs.Whole.{claimed_same, claims_moved, claims_verdict, domains_moved}
+use Rattle.std.proofs.Common.{map, ◌∙◌}
+use Rattle.verifier_batch.proofs.Whole.{claimed_same, claims_moved, claims_verdict, domains_moved, place_moved}
 use Rattle.verifier_batch.proofs.openings.proof_claims.Goals as goal
 
 pub returns-clause-verdict : goal.returns-clause-verdict
@@ -26,6 +23,4 @@ returns-clause-domains g c =
     c.bits_of.ensures c.requires.chunks c.commitments_with_opening_points.ensures.domains
 
 pub returns-clause-place : goal.returns-clause-place
-returns-clause-place g c =
-    IfOk-weaker _ _ _ (λ w e. e ∙ ap (λ x. place_of_preprocessed x (read_common c.args.common.now).preprocessed) c.commitments_of.ensures)
-    c.commitments_with_opening_points.ensures.place
+returns-clause-place g c = place_moved _ _ _ _ _ c.commitments_of.ensures c.commitments_with_opening_points.ensures.place
