@@ -15,7 +15,7 @@ rows_of-requires-clause-wide c =
     let given = c.args.commitment.now in
     let i = c.args.matrix in
     let items = λ (f : Vec BabyBear Global). f.items in
-    let whole : map items c.in_ok-polynomials.polynomials.items ≡ polynomials_at tool_scheme c.args.k given i = c.in_ok-polynomials.ensures c.args.k c.requires.fits c.requires.high in
+    let whole : map items c.in_ok-polynomials.polynomials.items ≡ polynomials_at tool_scheme c.args.k given i = c.in_ok-polynomials.ensures.polynomials c.args.k c.requires.fits c.requires.high in
     let many : length c.deref.result.now ≡ (matrix_at given i).width =
     ap length c.deref.ensures.value ∙ (sym (length-map c.in_ok-polynomials.polynomials.items items) ∙ (ap length whole ∙ length-polynomials_at c.args.k given i)) in
     subst (λ n. 0 < n) (sym many) c.requires.wide
@@ -27,5 +27,5 @@ pub returns : goal.returns
 returns c =
     let k = c.args.k in
     let items = λ (f : Vec BabyBear Global). f.items in
-    let whole : map items c.deref.result.now ≡ polynomials_at tool_scheme k c.args.commitment.now c.args.matrix = ap (map items) c.deref.ensures.value ∙ c.in_ok-polynomials.ensures k c.requires.fits c.requires.high in
+    let whole : map items c.deref.result.now ≡ polynomials_at tool_scheme k c.args.commitment.now c.args.matrix = ap (map items) c.deref.ensures.value ∙ c.in_ok-polynomials.ensures.polynomials k c.requires.fits c.requires.high in
     subst (λ (fs : List (List BabyBear)). IfOk c.rows_of.result (λ m. HasRowsOf k fs m)) whole c.rows_of.ensures

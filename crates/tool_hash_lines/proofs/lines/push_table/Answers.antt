@@ -42,7 +42,7 @@ push_rows-requires-clause-wide c =
     let high : height (matrix_at own i) ≡ 2 ^ (k + 1) = subst (λ (c : PlainCommitmentData BabyBear). height (matrix_at c i) ≡ 2 ^ (k + 1)) main m.height_is in
     let wide : (matrix_at own i).width ≡ 9168 = subst (λ (c : PlainCommitmentData BabyBear). (matrix_at c i).width ≡ 9168) main m.width_is in
     let items = λ (f : Vec BabyBear Global). f.items in
-    let whole : map items c.in_ok-polynomials-in-Hash.polynomials.items ≡ polynomials_at tool_scheme k own i = c.in_ok-polynomials-in-Hash.ensures k m.fits high in
+    let whole : map items c.in_ok-polynomials-in-Hash.polynomials.items ≡ polynomials_at tool_scheme k own i = c.in_ok-polynomials-in-Hash.ensures.polynomials k m.fits high in
     ap length c.deref.ensures.value ∙ (sym (length-map c.in_ok-polynomials-in-Hash.polynomials.items items) ∙ (ap length whole ∙ (length-polynomials_at k own i ∙ wide)))
 
 pub push_rows-requires-clause-high : goal.push_rows-requires-clause-high
@@ -66,5 +66,5 @@ returns-in_ok-polynomials-in-Hash c =
     let high : height (matrix_at c.proof.inside.commitments.main i) ≡ 2 ^ (k + 1) = subst (λ (c : PlainCommitmentData BabyBear). height (matrix_at c i) ≡ 2 ^ (k + 1)) main m.height_is in
     let items = λ (f : Vec BabyBear Global). f.items in
     let whole : map items c.deref.result.now ≡ polynomials_at tool_scheme k p.commitments.main i =
-    ap (map items) c.deref.ensures.value ∙ (c.in_ok-polynomials-in-Hash.ensures k m.fits high ∙ sym (ap (λ (c : PlainCommitmentData BabyBear). polynomials_at tool_scheme k c i) main)) in
+    ap (map items) c.deref.ensures.value ∙ (c.in_ok-polynomials-in-Hash.ensures.polynomials k m.fits high ∙ sym (ap (λ (c : PlainCommitmentData BabyBear). polynomials_at tool_scheme k c i) main)) in
     subst (λ (t : List ℕ). OnOk c.push_rows.result (c.push_rows.new.text.items ≡ c.args.text.now.items ++ t)) (lines_are tables p i k m.degree_is (map items c.deref.result.now) whole here) c.push_rows.ensures
