@@ -2,7 +2,7 @@
 ghost use Rattle.tool_jobs.specs.Jobs.{JobWithin, read_tables};
 
 use crate::configs::config_of;
-use crate::proved::{Proved, proved, said};
+use crate::proved::{own_proof, said};
 use air_core::{Air, BaseAir};
 use batch_setup::{StarkInstance, TableInstance};
 use p3_field::{BabyBear, Mem, PrimeCore64, RingCore};
@@ -29,7 +29,7 @@ fn answer_of<A: Air<BabyBear>>(
     instances: &[StarkInstance<'_, ToolConfig, A>],
     publics: &[Vec<BabyBear>],
 ) -> Mem<String> {
-    let Some(mut own) = proved(alloc, config, instances)? else {
+    let Some(mut own) = own_proof(alloc, config, instances)? else {
         return String::from_str(alloc, "no proof");
     };
     if call == "one" {

@@ -28,12 +28,12 @@ pub struct Proved {
 
 /// The tables' proof by `prove_batch`; None where their shapes, or the widths of what they send, aren't those that it asks for, and where it answers
 /// an error.
-pub fn proved<A: Air<BabyBear>>(
+pub fn own_proof<A: Air<BabyBear>>(
     alloc: Global,
     config: &ToolConfig,
     instances: &[StarkInstance<'_, ToolConfig, A>],
 ) -> Mem<Option<Proved>>
-    ensures { IfOk result (IfSome (λ p.
+    ensures { IfOk result (λ o. IfSome o (λ p.
         WellFormed (map A.declaration (airs_of instances.now)) (read_common p.common))) }
 {
     baby_bear_has_laws();
