@@ -65,7 +65,7 @@ pub fn taken_words(n: usize, state: &StateWords, g: usize) -> FourWords
     }
 }
 
-//// The words that step g of half round n makes of these.
+/// The words that step g of half round n makes of these.
 pub fn made_words(n: usize, block: &[u32; 28], state: &StateWords, g: usize) -> FourWords
     requires halves { n < 28 }
     requires steps { g < 4 }

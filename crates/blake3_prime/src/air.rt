@@ -16,7 +16,7 @@ use std::alloc::Global;
 /// The columns of the AIR.
 pub const NUM_BLAKE3_COLS: usize = 9168;
 
-/// The compression of BLAKE3 as a table: one compression a row (`crate::Blake3Air`).
+/// The compression of BLAKE3 as a table: one compression a row (`p3_blake3_air::Blake3Air`).
 #[derive(Drop)]
 pub struct Blake3Air {}
 

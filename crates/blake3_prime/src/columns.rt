@@ -9,7 +9,7 @@ ghost use Rattle.blake3_compress.specs.Generated.{words_of};
 use blake3_compress::word_at;
 use p3_field::Field;
 
-/// A row by the names of its columns (`crate::Blake3Cols`).
+/// A row by the names of its columns (`p3_blake3_air::Blake3Cols`).
 #[derive(Drop)]
 pub struct Blake3Cols<'a, T> {
     /// The cells of the row.
@@ -17,7 +17,7 @@ pub struct Blake3Cols<'a, T> {
     pub ghost wide: { length row.now ≡ 9168 },
 }
 
-/// A round's states by their names (`crate::FullRound`).
+/// A round's states by their names (`p3_blake3_air::FullRound`).
 #[derive(Drop)]
 pub struct FullRound<'a, T> {
     /// The cells of the row.
@@ -28,7 +28,7 @@ pub struct FullRound<'a, T> {
     pub ghost fits: { at + 1088 ≤ 9168 },
 }
 
-/// A state's rows by their names (`crate::Blake3State`).
+/// A state's rows by their names (`p3_blake3_air::Blake3State`).
 #[derive(Drop)]
 pub struct Blake3State<'a, T> {
     /// The cells of the row.

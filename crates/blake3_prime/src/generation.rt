@@ -138,7 +138,7 @@ pub fn room_of(rows: usize, extra: usize) -> Result<usize, TraceError>
 }
 
 /// The trace of the compressions of these blocks (16 words each) and chaining values (8 words): row i has the counter i, as
-/// block length the number of rows, of which the low 32 bits, and no flags (`crate::generate_trace_rows`). It has 9168
+/// block length the number of rows, of which the low 32 bits, and no flags (`p3_blake3_air::generate_trace_rows`). It has 9168
 /// columns. Room is kept for the cells times 2^`extra_capacity_bits`.
 ///
 /// `NotPowerOfTwo` exactly where the number of inputs is no power of two, as where there are none; else `TooLong` exactly where

@@ -22,10 +22,10 @@ pub use columns::{Blake3Cols, Blake3State, FullRound};
 pub use generation::generate_trace_rows;
 pub use writing::{write_limbs, write_word};
 
-/// Bits of a limb (`crate::constants`).
+/// Bits of a limb (`p3_blake3_air::constants`).
 pub const BITS_PER_LIMB: usize = 16;
 
-/// Limbs of a word (`crate::constants`).
+/// Limbs of a word (`p3_blake3_air::constants`).
 pub const U32_LIMBS: usize = 2;
 
 const _: () = prove!(U32_LIMBS * BITS_PER_LIMB == 32);

@@ -54,7 +54,7 @@ fn random_inputs(alloc: Global, rows: usize) -> Mem<Vec<[u32; 24]>>
 impl Blake3Air {
     /// The trace of compressions of random words, as many as `num_hashes`: each row takes the next 16 words of xoshiro256++
     /// from the seed 1 as its block and the 8 after these as its chaining value, each word's low 32 bits
-    /// (`crate::Blake3Air::generate_random_trace_rows`). The rest is as in `generate_trace_rows`.
+    /// (`p3_blake3_air::Blake3Air::generate_random_trace_rows`). The rest is as in `generate_trace_rows`.
     ///
     /// `NotPowerOfTwo` exactly where `num_hashes` is no power of two, as where it is 0; else `TooLong` exactly where the cells
     /// times 2^`extra_capacity_bits` pass `usize`. The other answer is `OutOfMemory`.

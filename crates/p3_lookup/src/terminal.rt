@@ -51,7 +51,7 @@ pub enum LookupError {
     TerminalSum,
 }
 
-/// Why permutation columns couldn't be generated (`p3_lookup::GenerateError`).
+/// Why permutation columns couldn't be generated (not in Plonky3).
 #[derive(Debug, Drop, Error)]
 pub enum GenerateError {
     /// The first denominator that is zero.
