@@ -43,10 +43,10 @@ impl CanObserve<BabyBear> for Sha256Challenger {
 
     /// One element, in one compression of SHA-256.
     fn observe(&mut self, value: &BabyBear) {
-        let mut hasher = Sha256::new();
-        hasher.update(&self.chain);
-        hasher.update(&(value.as_canonical_u64() as u32).to_le_bytes());
-        self.chain = hasher.finalize();
+        let mut message = [0; 36];
+        message[..32].copy_from_slice(&self.chain);
+        message[32..].copy_from_slice(&(value.as_canonical_u64() as u32).to_le_bytes());
+        self.chain = Sha256::digest(&message);
         self.left = 0;
     }
 }
