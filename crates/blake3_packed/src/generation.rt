@@ -1,7 +1,7 @@
 //! The packed rows of compressions.
-ghost use Rattle.std.specs.Prelude.{◌≡◌, ℕ, ◌+◌, ◌*◌, ◌<◌, ◌≤◌, IfOk, Err, ◌↔◌, MatchOption, length};
+ghost use Rattle.std.specs.Prelude.{◌≡◌, ℕ, ◌+◌, ◌*◌, ◌<◌, ◌≤◌, IfOk, Err, ◌↔◌, length};
 ghost use Rattle.p3_matrix.specs.Matrix.{height};
-ghost use Rattle.blake3_compress.specs.declared.error.TraceError.TheVariants.{WrongCharacteristic, NoInput, NotPowerOfTwo, TooLong, OutOfMemory};
+ghost use Rattle.blake3_compress.specs.declared.error.TraceError.TheVariants.{WrongCharacteristic, NoInput, NotPowerOfTwo, TooLong};
 ghost use Rattle.blake3_binary.specs.Rows.{compression, MayStand, HasNoRow, HasNoPower};
 ghost use Rattle.blake3_packed.specs.Lanes.{PushedLanes};
 ghost use Rattle.blake3_packed.specs.States.{presence, lane_cells};
@@ -45,13 +45,11 @@ fn blocks_of(alloc: Global, inputs: &[Blake3CompressionInput], room: usize) -> M
     Ok(values)
 }
 
-// The number of words of so many compressions; None exactly where it passes `usize`.
-fn room_for(rows: usize) -> Option<usize>
-    ensures { MatchOption result (usize.MAX < packed_height rows * 11536)
-        (λ n. n ≡ packed_height rows * 11536) }
+// The number of words of these compressions. It fits `usize`, since an input takes more bytes than its share of a row of words has words.
+fn room_for(inputs: &[Blake3CompressionInput]) -> usize
+    ensures { result ≡ packed_height (length inputs.now) * 11536 }
 {
-    let blocks = rows / 64 + if rows % 64 > 0 { 1 } else { 0 };
-    blocks.checked_mul(11536)
+    inputs.len().div_ceil(64) * 11536
 }
 
 /// The packed trace of these compressions: in every column bit j of row w is the cell of row 64 w + j of the trace that
@@ -61,7 +59,7 @@ fn room_for(rows: usize) -> Option<usize>
 ///
 /// `WrongCharacteristic` exactly where one and one isn't zero in the field, whose sum is no exclusive or then; else `NoInput`
 /// exactly where there is no input; else `NotPowerOfTwo` exactly where their number is no power of two, as the rows of a trace
-/// domain are. It is never `TooLong`: words that pass `usize` are out of memory, which is the other answer.
+/// domain are. It is never `TooLong`, since the words of inputs that stand in memory fit `usize`. Out of memory is the other answer.
 pub fn generate_binary_trace_packed<F: Field>(
     alloc: Global,
     inputs: &[Blake3CompressionInput],
@@ -78,7 +76,6 @@ pub fn generate_binary_trace_packed<F: Field>(
     ensures never_long { result ≡ Err TooLong → ⊥ }
 {
     check_rows::<F>(inputs.len())?;
-    let room = room_for(inputs.len()).ok_or(TraceError::OutOfMemory)?;
-    let values = blocks_of(alloc, inputs, room)?;
+    let values = blocks_of(alloc, inputs, room_for(inputs))?;
     Ok(RowMajorMatrix::new(values, 11536))
 }
