@@ -4,6 +4,7 @@
 mod configs;
 mod jobs;
 mod proved;
+mod texts;
 
 use p3_field::Mem;
 use std::alloc::Global;
@@ -14,6 +15,7 @@ fn answer(alloc: Global, line: &str) -> Mem<String> {
     let words: Vec<&str> = line.split_whitespace().collect(alloc)?;
     match *words.as_slice() {
         ["#", ..] => String::from_str(alloc, line),
+        ["texts"] => texts::texts(alloc),
         [call, config, ref job @ ..] => jobs::answer(alloc, call, config, job),
         _ => String::from_str(alloc, "bad case"),
     }

@@ -1,8 +1,8 @@
 //! What trees are made of: forms of values with one tree each.
 
-ghost use Rattle.std.specs.Prelude.{◌≡◌, length, IfErr, IfOk, Option, Some, None, Err};
+ghost use Rattle.std.specs.Prelude.{◌≡◌, length, IfOk, Option, Some, None, Err, ⊤};
 ghost use Rattle.json_forms.specs.Readings.{TreeForm, element_reading, extension_of};
-ghost use Rattle.json_forms.specs.declared.trees.TreeError.TheVariants.{NoTree};
+ghost use Rattle.json_forms.specs.declared.trees.TreeError.TheVariants.{NoTree, OutOfMemory};
 ghost use Rattle.serde_json.specs.Data.{Data as Tree};
 ghost use Rattle.serde_json.specs.View.{view};
 
@@ -36,10 +36,14 @@ pub trait JsonForm {
     /// The value that a tree is, where it is one's.
     ghost reading: { Tree → Option Self.Data };
 
+    /// Whether reading takes memory. Where it doesn't, it is never out of memory.
+    ghost allocates: { Type 0 };
+
     /// Reads the value that a tree is. It is `NoTree` exactly where the tree is no value's.
     fn read(alloc: Global, json: &Value) -> Result<Self::Value, TreeError>
         ensures ok { IfOk result (λ v. reading (view json.now) ≡ Some (data_of v)) }
-        ensures err { result ≡ Err NoTree → reading (view json.now) ≡ None };
+        ensures err { result ≡ Err NoTree → reading (view json.now) ≡ None }
+        ensures memory { result ≡ Err OutOfMemory → allocates };
 
     /// The tree of a value.
     fn write(alloc: Global, value: &Self::Value) -> Mem<Value>
@@ -68,12 +72,14 @@ impl JsonForm for BabyBear {
 
     ghost reading = { element_reading };
 
+    ghost allocates = { ⊥ };
+
     ghost form = { element-form };
 
     fn read(_alloc: Global, json: &Value) -> Result<BabyBear, TreeError>
         ensures ok { IfOk result (λ v. element_reading (view json.now) ≡ Some v) }
         ensures err { result ≡ Err NoTree → element_reading (view json.now) ≡ None }
-        ensures no_memory { IfErr result (λ e. e ≡ NoTree) }
+        ensures no_memory { result ≡ Err OutOfMemory → ⊥ }
     {
         match number(json, 0, LAST_ELEMENT) {
             Some(n) => Ok(BabyBear::from_u64(n)),
@@ -119,6 +125,8 @@ impl JsonForm for QuarticExtension {
 
     ghost reading = { extension_reading };
 
+    ghost allocates = { ⊤ };
+
     ghost form = { extension-form };
 
     fn read(alloc: Global, json: &Value) -> Result<QuarticExtension, TreeError> {
@@ -158,12 +166,14 @@ impl<const LEAST: usize, const MOST: usize> JsonForm for NumberIn<LEAST, MOST> {
 
     ghost reading = { number_reading LEAST MOST };
 
+    ghost allocates = { ⊥ };
+
     ghost form = { number-form LEAST MOST };
 
     fn read(_alloc: Global, json: &Value) -> Result<usize, TreeError>
         ensures ok { IfOk result (λ v. number_reading LEAST MOST (view json.now) ≡ Some v) }
         ensures err { result ≡ Err NoTree → number_reading LEAST MOST (view json.now) ≡ None }
-        ensures no_memory { IfErr result (λ e. e ≡ NoTree) }
+        ensures no_memory { result ≡ Err OutOfMemory → ⊥ }
     {
         match number(json, LEAST as u64, MOST as u64) {
             Some(n) => Ok(n as usize),

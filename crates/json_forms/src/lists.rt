@@ -1,6 +1,6 @@
 //! Lists of values, and values that may be absent.
 
-ghost use Rattle.std.specs.Prelude.{◌≡◌, Some, None, Err, IfOk, map};
+ghost use Rattle.std.specs.Prelude.{◌≡◌, Some, None, Err, IfOk, map, ⊤};
 ghost use Rattle.json_forms.specs.Readings.{items_reading, list_reading};
 ghost use Rattle.json_forms.specs.Trees.{items_tree, list_tree};
 ghost use Rattle.json_forms.specs.declared.trees.TreeError.TheVariants.{NoTree};
@@ -82,6 +82,8 @@ impl<T: JsonForm, const LEAST: usize, const MOST: usize> JsonForm for ListOf<T, 
 
     ghost reading = { list_reading LEAST MOST T.reading };
 
+    ghost allocates = { ⊤ };
+
     ghost form = { list-form LEAST MOST T.form };
 
     fn read(alloc: Global, json: &Value) -> Result<Vec<T::Value>, TreeError> {
@@ -137,6 +139,8 @@ impl<T: Present> JsonForm for Option<T> {
     ghost tree = { option_tree T.tree };
 
     ghost reading = { option_reading T.reading };
+
+    ghost allocates = { T.allocates };
 
     ghost form = { option-form T.solid T.form };
 

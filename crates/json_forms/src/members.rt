@@ -2,7 +2,7 @@
 
 ghost use Rattle.std.specs.Prelude.{◌≡◌, ◌≢◌, ◌≤◌, Some, None, Err, IfErr, IfOk, OnOk};
 ghost use Rattle.json_forms.specs.Readings.{member_reading, number_reading, word_reading};
-ghost use Rattle.json_forms.specs.declared.trees.TreeError.TheVariants.{NoTree};
+ghost use Rattle.json_forms.specs.declared.trees.TreeError.TheVariants.{NoTree, OutOfMemory};
 ghost use Rattle.json_forms.specs.Trees.{number_tree};
 ghost use Rattle.serde_json.specs.Data.{object, no_members, put, string};
 ghost use Rattle.serde_json.specs.Find.{as_object};
@@ -60,6 +60,7 @@ impl<'v> ObjectReader<'v> {
             ≡ Some (T.data_of v, members_left self.new)) }
         ensures err { result ≡ Err NoTree
             → member_reading key.now T.reading (members_left self.old) ≡ None }
+        ensures memory { result ≡ Err OutOfMemory → T.allocates }
     {
         match self.rest.next() {
             Some((name, tree)) => if name.as_str() == key {

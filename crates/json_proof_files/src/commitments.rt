@@ -1,5 +1,7 @@
 //! The trees of commitments.
 
+ghost use Rattle.std.specs.Prelude.{⊤};
+
 use crate::matrices::MatrixForm;
 use batch_statement::BatchCommitments;
 use json_forms::{JsonForm, ListOf, ObjectReader, ObjectWriter, Present, TreeError};
@@ -33,6 +35,8 @@ impl JsonForm for CommitmentForm {
     ghost tree = { commitment_tree };
 
     ghost reading = { commitment_reading };
+
+    ghost allocates = { ⊤ };
 
     ghost form = { commitment-form };
 
@@ -77,6 +81,8 @@ impl JsonForm for CommitmentsForm {
     ghost tree = { commitments_tree };
 
     ghost reading = { commitments_reading };
+
+    ghost allocates = { ⊤ };
 
     ghost form = { commitments-form };
 

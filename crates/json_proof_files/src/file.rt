@@ -1,5 +1,7 @@
 //! The tree of a proof file.
 
+ghost use Rattle.std.specs.Prelude.{⊤};
+
 use crate::commitments::CommitmentsForm;
 use crate::openings::InstanceForm;
 use crate::tables::TableForm;
@@ -46,6 +48,8 @@ impl JsonForm for TerminalForm {
 
     ghost reading = { extension_reading };
 
+    ghost allocates = { ⊤ };
+
     ghost form = { extension-form };
 
     fn read(alloc: Global, json: &Value) -> Result<LookupTerminal<QuarticExtension>, TreeError> {
@@ -84,6 +88,8 @@ impl JsonForm for FileForm {
     ghost tree = { file_tree };
 
     ghost reading = { file_reading };
+
+    ghost allocates = { ⊤ };
 
     ghost form = { file-form };
 

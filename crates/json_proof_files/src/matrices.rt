@@ -1,6 +1,6 @@
 //! The trees of matrices.
 
-ghost use Rattle.std.specs.Prelude.{◌≡◌};
+ghost use Rattle.std.specs.Prelude.{◌≡◌, ⊤};
 ghost use Rattle.json_proof_files.specs.MatrixTrees.{fills as are_filled};
 
 use json_forms::{JsonForm, ListOf, NumberIn, ObjectReader, ObjectWriter, TreeError};
@@ -53,6 +53,8 @@ impl JsonForm for MatrixForm {
     ghost tree = { matrix_tree };
 
     ghost reading = { matrix_reading };
+
+    ghost allocates = { ⊤ };
 
     ghost form = { matrix-form };
 

@@ -1,5 +1,7 @@
 //! The trees of the values that are opened of one table.
 
+ghost use Rattle.std.specs.Prelude.{⊤};
+
 use batch_statement::OpenedValuesWithLookups;
 use json_forms::{JsonForm, ListOf, ObjectReader, ObjectWriter, Present, TreeError};
 use p3_field::{Mem, QuarticExtension};
@@ -35,6 +37,8 @@ impl JsonForm for ValuesForm {
     ghost tree = { values_tree };
 
     ghost reading = { values_reading };
+
+    ghost allocates = { ⊤ };
 
     ghost form = { values-form };
 
@@ -75,6 +79,8 @@ impl JsonForm for PreprocessedForm {
     ghost tree = { preprocessed_tree };
 
     ghost reading = { preprocessed_reading };
+
+    ghost allocates = { ⊤ };
 
     ghost form = { preprocessed-form };
 
@@ -127,6 +133,8 @@ impl JsonForm for InstanceForm {
     ghost tree = { instance_tree };
 
     ghost reading = { instance_reading };
+
+    ghost allocates = { ⊤ };
 
     ghost form = { instance-form };
 

@@ -1,7 +1,7 @@
 //! The trees of stated tables.
 
 ghost use Rattle.std.specs.Prelude.{◌≡◌, ◌≤◌, codes, IfErr, IfOk, None, Some, Err};
-ghost use Rattle.json_forms.specs.declared.trees.TreeError.TheVariants.{NoTree};
+ghost use Rattle.json_forms.specs.declared.trees.TreeError.TheVariants.{NoTree, OutOfMemory};
 ghost use Rattle.serde_json.specs.View.{view};
 ghost use Rattle.json_proof_files.specs.TableTrees.{plain_table_reading, plain_table_tree, swap_reading, kind_reading};
 
@@ -37,6 +37,7 @@ fn read_plain(json: &Value, kind: &str, least: u64, most: u64) -> Result<u8, Tre
 fn read_swap(alloc: Global, json: &Value) -> Result<TableStatement, TreeError>
     ensures ok { IfOk result (λ t. swap_reading (view json.now) ≡ Some t) }
     ensures err { result ≡ Err NoTree → swap_reading (view json.now) ≡ None }
+    ensures no_memory { result ≡ Err OutOfMemory → ⊥ }
 {
     let mut members = ObjectReader::new(json)?;
     let a = members.read::<BabyBear>(alloc, "a")?;
@@ -57,6 +58,7 @@ fn read_swap(alloc: Global, json: &Value) -> Result<TableStatement, TreeError>
 fn read_kind(alloc: Global, json: &Value, kind: &str) -> Result<TableStatement, TreeError>
     ensures ok { IfOk result (λ t. kind_reading kind.now (view json.now) ≡ Some t) }
     ensures err { result ≡ Err NoTree → kind_reading kind.now (view json.now) ≡ None }
+    ensures no_memory { result ≡ Err OutOfMemory → ⊥ }
 {
     if kind == "swap" {
         read_swap(alloc, json)
@@ -108,6 +110,8 @@ impl JsonForm for TableForm {
     ghost tree = { table_tree };
 
     ghost reading = { table_reading };
+
+    ghost allocates = { ⊥ };
 
     ghost form = { table-form };
 
