@@ -7,7 +7,7 @@ use std::fmt::Display;
 use thiserror::Error;
 
 /// What a prover asks of the backend, in the order of the work (not in Plonky3: the Rust has a text).
-#[derive(Debug, Drop)]
+#[derive(Clone, Copy, Debug)]
 pub enum ProverPhase {
     /// To commit to the preprocessed traces, before a proof.
     PreprocessingCommitment,

@@ -4,7 +4,7 @@ use p3_uni_stark::{Commitment, StarkGenericConfig};
 use std::marker::Model;
 
 /// What was committed of one table's preprocessed trace (`PreprocessedInstanceMeta` of `p3-batch-stark`).
-#[derive(Drop)]
+#[derive(Clone, Drop)]
 pub struct PreprocessedInstanceMeta {
     /// The trace's place among the committed matrices.
     pub matrix_index: usize,

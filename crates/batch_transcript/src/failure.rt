@@ -6,7 +6,7 @@ use std::alloc::AllocError;
 use thiserror::Error;
 
 /// A grinding value that the verifier refuses, as Plonky3's `batch_transcript::BatchTranscriptFailure`.
-#[derive(Debug, Drop, PartialEq, Eq, Error)]
+#[derive(Clone, Copy, Debug, PartialEq, Eq, Error)]
 pub enum BatchTranscriptFailure {
     /// The value before the lookups' challenges fails the challenger's test.
     #[error("lookup phase PoW witness does not meet the required {bits} bits")]
@@ -38,7 +38,7 @@ pub enum BatchTranscriptFailure {
 }
 
 /// Which grinding it is that no element passes (not in Plonky3).
-#[derive(Debug, Drop)]
+#[derive(Clone, Copy, Debug)]
 pub enum GrindStep {
     /// The one before the lookups' challenges.
     Lookup,

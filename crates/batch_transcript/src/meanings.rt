@@ -3,7 +3,7 @@
 ghost use Rattle.std.specs.Prelude.{ℕ, ◌≡◌, ◌↔◌, List, true};
 ghost use Rattle.p3_challenger.specs.Script.{steps_of};
 ghost use Rattle.batch_transcript.specs.BatchScript.{BatchShapeData, Given, script, pattern};
-ghost use Rattle.batch_transcript.specs.Shapes.{TellsShapes, shape_eq};
+ghost use Rattle.batch_transcript.specs.Shapes.{TellsShapes};
 ghost use Rattle.batch_transcript.specs.Running.{PlaysChain, IsOneFold, TellsDraws, TellsTests};
 ghost use Rattle.batch_transcript.specs.Fits.{FitsShape};
 ghost use Rattle.batch_transcript.specs.Buses.{LaysOutBases};
@@ -12,6 +12,8 @@ ghost use Rattle.p3_lookup.specs.Bus.{SharesByName, batch_buses};
 ghost use Rattle.batch_transcript.specs.Single.{HasNineSteps, HasNineValues};
 
 use crate::challenger::BatchChallenger;
+use crate::failure::BatchTranscriptFailure;
+use crate::shape::BatchShape;
 use p3_challenger::{CanObserve, CanSample, GrindingChallenger};
 use p3_field::{BasedVectorSpace, ExtensionField, Field, PrimeField64, RingCore};
 
@@ -19,7 +21,19 @@ use p3_field::{BasedVectorSpace, ExtensionField, Field, PrimeField64, RingCore};
 /// lookup grinding where no instance has lookups. `==` of shapes is true exactly where they are equal.
 pub fn shapes_are_told()
     ensures told { (d : ℕ) (s : BatchShapeData) → TellsShapes d s }
-    ensures equality { (s t : BatchShapeData) → (shape_eq s t ≡ true) ↔ (s ≡ t) }
+    ensures equality { (s t : BatchShapeData)
+        → (⟦<BatchShape as PartialEq>⟧.eq s t ≡ true) ↔ (s ≡ t) }
+{}
+
+/// `==` of refused grinding values is true exactly where they are equal (`equality`), a clone is equal to what is cloned (`clones`), and no
+/// clone fails (`sure`).
+pub fn failures_are_told()
+    ensures equality { (d e : BatchTranscriptFailure)
+        → (⟦<BatchTranscriptFailure as PartialEq>⟧.eq d e ≡ true) ↔ (d ≡ e) }
+    ensures clones { (d e : BatchTranscriptFailure)
+        → ⟦<BatchTranscriptFailure as Clone>⟧.is_clone d e → d ≡ e }
+    ensures sure { (e : BatchTranscriptFailure)
+        → ⟦<BatchTranscriptFailure as Clone>⟧.is_infallible e }
 {}
 
 /// Prover's and verifier's transcripts are one fold: phases one after the other are one, from equal states one script draws the same and leaves

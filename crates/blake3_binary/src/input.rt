@@ -1,7 +1,7 @@
 //! One compression as a caller gives it.
 
 /// One compression (`p3_blake3_air::Blake3CompressionInput`).
-#[derive(Clone, Copy, Default, PartialEq, Eq)]
+#[derive(Clone, Copy, Debug, Default, PartialEq, Eq)]
 pub struct Blake3CompressionInput {
     /// The chaining value.
     pub chaining_value: [u32; 8],

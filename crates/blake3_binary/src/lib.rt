@@ -18,6 +18,7 @@ mod places;
 mod random;
 mod reading;
 mod rounds;
+mod told;
 mod words;
 
 pub use air::{Blake3BinaryAir, NUM_BLAKE3_BINARY_COLS};
@@ -26,3 +27,4 @@ pub use columns::{Blake3BinaryCols, Blake3BinaryGCols};
 pub use generation::{check_rows, generate_binary_trace_rows};
 pub use input::Blake3CompressionInput;
 pub use random::random_inputs;
+pub use told::inputs_are_told;

@@ -208,6 +208,9 @@ pub trait PolynomialSpace: Copy {
     ghost steps: { (d : Self) (i : ℕ) → valid d
         → point_at d (i + 1) ≡ Self.Val.ring.mul (point_at d i) (step d) };
 
+    // an offered space has at least as many points as were asked for
+    ghost offered_size: { (d e : Self) (m : ℕ) → offered d m e → m ≤ points e };
+
     // an offered space is disjoint exactly where the generator lies outside
     ghost disjoint_exactly: { (d e : Self) (m : ℕ) → valid d → valid e → offered d m e
         → AreDisjoint (points d) (point_at d) (points e) (point_at e) ↔ outside d e };
@@ -353,6 +356,8 @@ impl<F: TwoAdicField> PolynomialSpace for TwoAdicMultiplicativeCoset<F> {
         h.0 };
 
     ghost steps = { λ d i h. point_after F.ring F.ring_laws F.root d i };
+
+    ghost offered_size = { λ d e m o. o.enough };
 
     ghost disjoint_exactly = { λ d e m h k o.
         disjoint_where_outside F.ring F.ring_laws F.inv F.field_laws F.TWO_ADICITY F.root

@@ -19,6 +19,7 @@ mod periodic_table;
 mod periodic_values;
 mod selectors;
 mod split;
+mod told;
 mod univariate;
 mod verdict;
 
@@ -38,5 +39,6 @@ pub use periodic_evaluator::PeriodicEvaluator;
 pub use periodic_table::PeriodicLdeTable;
 pub use selectors::{LagrangeSelectors, first_selector_at, last_selector_at};
 pub use split::{paired, rows_from};
+pub use told::shape_errors_are_told;
 pub use univariate::UnivariateStarkPcs;
 pub use verdict::a_verification_is_a_check;

@@ -10,7 +10,7 @@ use std::alloc::AllocError;
 use thiserror::Error;
 
 /// Why a periodic column can't be laid over a trace of a given height (`PeriodicColumnShapeError` of `p3-commit`).
-#[derive(Debug, Drop, PartialEq, Eq, Error)]
+#[derive(Clone, Debug, Drop, PartialEq, Eq, Error)]
 pub enum PeriodicColumnShapeError {
     /// The length isn't a power of two, so no subgroup has that size.
     #[error("periodic column {index} has length {length}, which is not a power of two")]

@@ -1,0 +1,46 @@
+use Rattle.std.proofs.Common.{◌≡◌, true, false, refl}
+use Rattle.std.proofs.lemmas.Bool.{eq-eqb, eqb-true}
+use Rattle.batch_transcript.specs.declared.failure.BatchTranscriptFailure.{BatchTranscriptFailure}
+use Rattle.batch_transcript.specs.declared.failure.BatchTranscriptFailure.TheVariants.{LookupPowWitness, MissingLookupPowWitness, UnexpectedLookupPowWitness, NonCanonicalLookupPowWitness, OodPowWitness, NonCanonicalOodPowWitness}
+use Rattle.batch_transcript.proofs.meanings.failures_are_told.Goals as goal
+
+apart : {d e : BatchTranscriptFailure} → (d ≡ e → ⊥) → (false ≡ true → d ≡ e) × (d ≡ e → false ≡ true)
+apart n = (λ h. absurd (cc h), λ e. absurd (n e))
+
+pub returns-clause-equality : goal.returns-clause-equality
+returns-clause-equality c (LookupPowWitness k) (LookupPowWitness l) = (λ h i. LookupPowWitness (eqb-true k l h i), λ h. eq-eqb k l (cc h))
+returns-clause-equality c (LookupPowWitness k) (MissingLookupPowWitness l) = apart (λ h. cc h)
+returns-clause-equality c (LookupPowWitness k) UnexpectedLookupPowWitness = apart (λ h. cc h)
+returns-clause-equality c (LookupPowWitness k) NonCanonicalLookupPowWitness = apart (λ h. cc h)
+returns-clause-equality c (LookupPowWitness k) (OodPowWitness l) = apart (λ h. cc h)
+returns-clause-equality c (LookupPowWitness k) NonCanonicalOodPowWitness = apart (λ h. cc h)
+returns-clause-equality c (MissingLookupPowWitness k) (LookupPowWitness l) = apart (λ h. cc h)
+returns-clause-equality c (MissingLookupPowWitness k) (MissingLookupPowWitness l) = (λ h i. MissingLookupPowWitness (eqb-true k l h i), λ h. eq-eqb k l (cc h))
+returns-clause-equality c (MissingLookupPowWitness k) UnexpectedLookupPowWitness = apart (λ h. cc h)
+returns-clause-equality c (MissingLookupPowWitness k) NonCanonicalLookupPowWitness = apart (λ h. cc h)
+returns-clause-equality c (MissingLookupPowWitness k) (OodPowWitness l) = apart (λ h. cc h)
+returns-clause-equality c (MissingLookupPowWitness k) NonCanonicalOodPowWitness = apart (λ h. cc h)
+returns-clause-equality c UnexpectedLookupPowWitness (LookupPowWitness l) = apart (λ h. cc h)
+returns-clause-equality c UnexpectedLookupPowWitness (MissingLookupPowWitness l) = apart (λ h. cc h)
+returns-clause-equality c UnexpectedLookupPowWitness UnexpectedLookupPowWitness = (λ h. refl, λ h. refl)
+returns-clause-equality c UnexpectedLookupPowWitness NonCanonicalLookupPowWitness = apart (λ h. cc h)
+returns-clause-equality c UnexpectedLookupPowWitness (OodPowWitness l) = apart (λ h. cc h)
+returns-clause-equality c UnexpectedLookupPowWitness NonCanonicalOodPowWitness = apart (λ h. cc h)
+returns-clause-equality c NonCanonicalLookupPowWitness (LookupPowWitness l) = apart (λ h. cc h)
+returns-clause-equality c NonCanonicalLookupPowWitness (MissingLookupPowWitness l) = apart (λ h. cc h)
+returns-clause-equality c NonCanonicalLookupPowWitness UnexpectedLookupPowWitness = apart (λ h. cc h)
+returns-clause-equality c NonCanonicalLookupPowWitness NonCanonicalLookupPowWitness = (λ h. refl, λ h. refl)
+returns-clause-equality c NonCanonicalLookupPowWitness (OodPowWitness l) = apart (λ h. cc h)
+returns-clause-equality c NonCanonicalLookupPowWitness NonCanonicalOodPowWitness = apart (λ h. cc h)
+returns-clause-equality c (OodPowWitness k) (LookupPowWitness l) = apart (λ h. cc h)
+returns-clause-equality c (OodPowWitness k) (MissingLookupPowWitness l) = apart (λ h. cc h)
+returns-clause-equality c (OodPowWitness k) UnexpectedLookupPowWitness = apart (λ h. cc h)
+returns-clause-equality c (OodPowWitness k) NonCanonicalLookupPowWitness = apart (λ h. cc h)
+returns-clause-equality c (OodPowWitness k) (OodPowWitness l) = (λ h i. OodPowWitness (eqb-true k l h i), λ h. eq-eqb k l (cc h))
+returns-clause-equality c (OodPowWitness k) NonCanonicalOodPowWitness = apart (λ h. cc h)
+returns-clause-equality c NonCanonicalOodPowWitness (LookupPowWitness l) = apart (λ h. cc h)
+returns-clause-equality c NonCanonicalOodPowWitness (MissingLookupPowWitness l) = apart (λ h. cc h)
+returns-clause-equality c NonCanonicalOodPowWitness UnexpectedLookupPowWitness = apart (λ h. cc h)
+returns-clause-equality c NonCanonicalOodPowWitness NonCanonicalLookupPowWitness = apart (λ h. cc h)
+returns-clause-equality c NonCanonicalOodPowWitness (OodPowWitness l) = apart (λ h. cc h)
+returns-clause-equality c NonCanonicalOodPowWitness NonCanonicalOodPowWitness = (λ h. refl, λ h. refl)
