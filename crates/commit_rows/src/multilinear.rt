@@ -1,5 +1,5 @@
 //! Schemes that commit to multilinear polynomials.
-ghost use Rattle.std.specs.Prelude.{◌≡◌, ℕ, IfOk};
+ghost use Rattle.std.specs.Prelude.{◌≡◌, ℕ, IfOk, IsOk};
 ghost use Rattle.commit_core.specs.Failure.{NoneOf, FaultUnless, RefusedBy, IfRefused, VerifiedBy};
 
 use commit_core::PcsFailure;
@@ -57,6 +57,10 @@ where
     ghost opens: { Self → Challenger → Self.Commitment → Self.OpeningProtocol → Self.Proof
         → Type 0 };
 
+    // the state in which an opening with this proof leaves the challenger, and a verification that accepts it
+    ghost after: { Self → Challenger → Self.Commitment → Self.OpeningProtocol → Self.Proof
+        → Challenger };
+
     // the first fault of a proof that doesn't
     ghost fault: { Self → Challenger → Self.Commitment → Self.OpeningProtocol → Self.Proof
         → Self.Error → Type 0 };
@@ -83,8 +87,9 @@ where
     fn observe_commitment(&self, commitment: &Self::Commitment, challenger: &mut Challenger)
         ensures { challenger.new ≡ observed self.now commitment.now challenger.old };
 
-    /// Opens by a protocol. The proof is accepted for the commitment from the same state of the challenger. `Refused`
-    /// comes exactly where `open_fault` names a cause, and leaves the challenger as it was.
+    /// Opens by a protocol. The proof is accepted for the commitment from the same state of the challenger, and leaves both
+    /// challengers in one state (`after`). `Refused` comes exactly where `open_fault` names a cause, and leaves the
+    /// challenger as it was.
     fn open(
         &self,
         alloc: Global,
@@ -96,10 +101,13 @@ where
         ensures unchanged { IfRefused result (λ _. challenger.new ≡ challenger.old) }
         ensures accepted { IfOk result
             (λ p. (c : Self.Commitment) (w : Self.Witness) → holds self.now prover_data c w
-            → opens self.now challenger.old c protocol.now p) };
+            → opens self.now challenger.old c protocol.now p) }
+        ensures after { IfOk result
+            (λ p. (c : Self.Commitment) (w : Self.Witness) → holds self.now prover_data c w
+            → challenger.new ≡ after self.now challenger.old c protocol.now p) };
 
     /// Whether the proof opens the commitment by the protocol, from the challenger's state: Ok exactly where it does
-    /// (`opens`), and else `Refused` of the first fault.
+    /// (`opens`), and else `Refused` of the first fault. Where it accepts, it leaves the challenger as the opening did.
     fn verify(
         &self,
         alloc: Global,
@@ -108,8 +116,11 @@ where
         challenger: &mut Challenger,
         protocol: &Self::OpeningProtocol,
     ) -> Result<(), PcsFailure<Self::Error>>
-        ensures { VerifiedBy (opens self.now challenger.old commitment.now protocol.now proof.now)
-            (fault self.now challenger.old commitment.now protocol.now proof.now) result };
+        ensures verdict { VerifiedBy
+            (opens self.now challenger.old commitment.now protocol.now proof.now)
+            (fault self.now challenger.old commitment.now protocol.now proof.now) result }
+        ensures after { IsOk result → challenger.new
+            ≡ after self.now challenger.old commitment.now protocol.now proof.now };
 
     // a proof that opens has no fault
     ghost opens_faultless: { (s : Self) (t : Challenger) (c : Self.Commitment)

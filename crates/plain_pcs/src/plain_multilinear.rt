@@ -1,5 +1,5 @@
 //! A multilinear polynomial whose values are their own commitment.
-ghost use Rattle.std.specs.Prelude.{◌≡◌, ℕ, ◌^◌, ◌<◌, List, length, map, IfOk, IfErr, MatchOption};
+ghost use Rattle.std.specs.Prelude.{◌≡◌, ℕ, ◌^◌, ◌<◌, List, length, map, IfOk, IfErr, IsOk, MatchOption};
 ghost use Rattle.commit_rows.specs.Batches.{lists};
 ghost use Rattle.commit_core.specs.Failure.{RefusedBy, IfRefused, VerifiedBy};
 ghost use Rattle.plain_pcs.specs.PlainMultilinear.{after_values, HasValues, HaveCoordinates, AreValuesAt, IsClaimFault, IsCommitFault, IsOpenFault};
@@ -127,6 +127,8 @@ impl<F: Field, EF: ExtensionField<F>, C: CanObserve<F>> MultilinearPcs<EF, C>
     ghost opens = { λ s t c o p.
         AreValuesAt EF.ring EF.embed s c.values.items (lists o.items) p.items };
 
+    ghost after = { λ s t c o p. t };
+
     ghost fault = { λ s t c o p e.
         IsClaimFault EF.ring EF.embed s c.values.items (lists o.items) p.items e };
 
@@ -190,6 +192,10 @@ impl<F: Field, EF: ExtensionField<F>, C: CanObserve<F>> MultilinearPcs<EF, C>
             × (prover_data.values.items ≡ w.items) × (c.values.items ≡ w.items)
             → AreValuesAt EF.ring EF.embed self.now c.values.items (lists protocol.now.items)
             p.items) }
+        ensures after { IfOk result
+            (λ p. (c : PlainEvaluations F) (w : Vec F Global) → HasValues self.now w.items
+            × (prover_data.values.items ≡ w.items) × (c.values.items ≡ w.items)
+            → _challenger.new ≡ _challenger.old) }
     {
         if prover_data.values.len() != 1 << self.num_vars {
             return Err(PcsFailure::Refused(PlainMultilinearProverError::Length));
@@ -221,6 +227,7 @@ impl<F: Field, EF: ExtensionField<F>, C: CanObserve<F>> MultilinearPcs<EF, C>
             × HaveCoordinates self.now (lists protocol.now.items)
             × (length proof.now.items ≡ length protocol.now.items)) }
         ensures challenger { _challenger.new ≡ _challenger.old }
+        ensures after { IsOk result → _challenger.new ≡ _challenger.old }
     {
         if commitment.values.len() != 1 << self.num_vars {
             return Err(PcsFailure::Refused(PlainMultilinearError::Length));
