@@ -1,13 +1,10 @@
-//! The program: it makes the real ends, does what `run_chain` does, and ends with the exit code of its status.
+//! The program of chains: it makes the real ends, and ends with the exit code that `run_chain_to_exit` answers.
 #![tactic(auto)]
 
-use stark_chain::run_chain;
+use stark_chain::{Status, StdSink, StdSource, exit_code, run_chain_to_exit};
 use std::alloc::AllocError;
 use std::process::ExitCode;
 use std::{env, io};
-use tool_bytes::{StdSink, StdSource};
-use tool_run::exit_code;
-use tool_verifier::Status;
 
 fn main(rt: HostRuntime) -> ExitCode {
     let alloc = rt.alloc();
@@ -20,7 +17,7 @@ fn main(rt: HostRuntime) -> ExitCode {
     let mut source = StdSource::new(rt.reader());
     let mut sink = StdSink::new(io::writer(&rt));
     match words {
-        Ok(words) => exit_code(run_chain(alloc, &words, &mut source, &mut sink)),
+        Ok(words) => run_chain_to_exit(alloc, &words, &mut source, &mut sink),
         Err(AllocError) => exit_code(Status::OutOfMemory),
     }
 }

@@ -11,7 +11,7 @@ use Rattle.tool_verifier.specs.FileAnswer.{IsAccepted, IsRefusedWith}
 use Rattle.tool_verifier.specs.Refusals.{fault_name, fault_numbers, refused_text}
 use Rattle.tool_verifier.specs.declared.status.Status.{Status}
 use Rattle.tool_verifier.specs.declared.status.Status.TheVariants.{Done, Refused, Usage, BadInput, ReadFault, WriteFault, OutOfMemory, TooLarge}
-use Rattle.audit_batch.specs.Report.{IsReport, fails_line}
+use Rattle.audit_batch.specs.Report.{IsPlayedText, IsReport, fails_line}
 
 -- a challenge's coefficients
 abbrev pub coefficient_numbers : QuarticExtension → List ℕ
@@ -37,14 +37,15 @@ IsExplained version tables p WriteFault text = ⊥
 IsExplained version tables p OutOfMemory text = ⊥
 IsExplained version tables p TooLarge text = ⊥
 
--- the first line of what fails has the name and the numbers of `verify`'s refusal
+-- the first line after the steps has the name and the numbers of `verify`'s refusal
 pub record NamesRefusal (version : TranscriptVersion) (tables : List TableStatement) (p : ToolProofData) (text : List ℕ) : Type 0 where
   pub name : List ℕ
   pub fields : List ℕ
   pub refused : IsRefusedWith version tables p (refused_text name fields)
-  pub before : List ℕ
+  pub steps : List ℕ
+  pub played : IsPlayedText (tool_setting version) tool_backend (tool_statement tables) p coefficient_numbers steps
   pub after : List ℕ
-  pub line : text ≡ (before ++ fails_line name fields) ++ after
+  pub line : text ≡ (steps ++ fails_line name fields) ++ after
 
 -- it is done exactly where the file is accepted
 abbrev pub DoneWhereAccepted : TranscriptVersion → List TableStatement → ToolProofData → Status → Type 0

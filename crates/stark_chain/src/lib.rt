@@ -6,6 +6,7 @@
 
 mod answers;
 mod command;
+mod exit;
 mod file;
 mod job;
 mod prove;
@@ -14,8 +15,12 @@ mod verify;
 mod words;
 
 pub use command::ChainCommand;
+pub use exit::run_chain_to_exit;
 pub use file::{ChainFile, WholeChainFile, read_chain_file, write_chain_file};
 pub use job::{ChainJob, WholeChainJob, read_chain_job};
 pub use prove::answer_prove;
+pub use tool_bytes::{MemorySink, MemorySource, Sink, Source, StdSink, StdSource};
+pub use tool_run::exit_code;
+pub use tool_verifier::{Answer, Status};
 pub use top::run_chain;
 pub use verify::answer_verify;

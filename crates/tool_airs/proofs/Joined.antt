@@ -34,7 +34,7 @@ use Rattle.prover_answer.specs.Laws.Telling.{refusal_tells}
 use Rattle.prover_answer.specs.PlainBackend.{baby_bear_prover, plain_commits, plain_prover_backend}
 use Rattle.prover_answer.specs.Proving.{AvoidsExcluded, IsHonestProof, proving_checks}
 use Rattle.prover_answer.specs.Telling.{Tells}
-use Rattle.prover_answer.specs.Verdict.{IsAnswerRefusal, IsProverAnswer}
+use Rattle.prover_answer.specs.Verdict.{IsAnswerRefusal, IsProverAnswer, IsProverVerdict}
 use Rattle.prover_answer.specs.declared.error.ProvingError.{ProvingError}
 use Rattle.prover_answer.specs.declared.error.ProvingError.TheVariants.{LookupDenominatorZero, MultiplicityBound, OutOfMemory, Pcs, WitnessNotFound}
 use Rattle.verifier_batch.specs.BatchChecks.{Accepted}
@@ -169,6 +169,12 @@ module _ {A : Type 0} (declaration : A → Declaration BabyBear) (trees : A → 
         told e
         (subst (λ (B : AirsBatch). IsAnswerRefusal (proving_checks (plain_prover_backend tool_scheme) B) e) same_batch
         (subst (λ (s : Blowup). IsAnswerRefusal (proving_checks (plain_prover_backend (scheme_with s)) batch) e) b_is h))
+
+    pub first_there : {T : Type 0} (r : Result T (ProvingError PlainProverError)) → IsProverVerdict (proving_checks (plain_prover_backend (scheme_with b)) batch) r
+        → IsProverVerdict (proving_checks (plain_prover_backend tool_scheme) shared) r
+    first_there r h =
+        subst (λ (B : AirsBatch). IsProverVerdict (proving_checks (plain_prover_backend tool_scheme) B) r) same_batch
+        (subst (λ (s : Blowup). IsProverVerdict (proving_checks (plain_prover_backend (scheme_with s)) batch) r) b_is h)
 
     abbrev pub AcceptsThen : AirsProof → Type 0
     AcceptsThen q =

@@ -6,7 +6,9 @@ ghost use Rattle.batch_setup.specs.Setup.{airs_of};
 ghost use Rattle.law_honest.specs.HonestProof.{IsBuilt};
 ghost use Rattle.law_joining.specs.Shaped.{IsShaped};
 ghost use Rattle.prover_answer.specs.PlainBackend.{plain_prover_backend};
+ghost use Rattle.prover_answer.specs.Proving.{proving_checks};
 ghost use Rattle.prover_answer.specs.Telling.{Tells};
+ghost use Rattle.prover_answer.specs.Verdict.{IsProverVerdict};
 ghost use Rattle.verifier_batch.specs.BatchChecks.{Accepted};
 ghost use Rattle.transcript_version.specs.declared.TranscriptVersion.TheVariants.{V2};
 ghost use Rattle.tool_statement.specs.Config.{tool_backend, tool_scheme, tool_setting};
@@ -43,6 +45,8 @@ pub fn prove_airs_with_point<A: Air<BabyBear>>(
         IfOk result (λ r. IsBuilt b.setting b.prover b.statement b.traces b.degree_bits r.0) }
     ensures refusal { let b = airs_batch A.declaration A.trees A.interactions instances.now in
         IfErr result (Tells (plain_prover_backend tool_scheme) b) }
+    ensures first { let b = airs_batch A.declaration A.trees A.interactions instances.now in
+        IsProverVerdict (proving_checks (plain_prover_backend tool_scheme) b) result }
     ensures accepted { let b = airs_batch A.declaration A.trees A.interactions instances.now in
         IfOk result (λ r. AreMet b → DrawsOutside b r.0
         → Accepted (tool_setting V2) tool_backend b.statement r.0) }
@@ -56,7 +60,8 @@ pub fn prove_airs_with_point<A: Air<BabyBear>>(
 }
 
 /// The honest proof of these tables over the program's configuration (`proved`), whether or not the traces meet the constraints: no clause says
-/// that one of traces that don't is refused. The error says why there is none (`refusal`). Out of memory may come in place of any answer.
+/// that one of traces that don't is refused. The error is that of the prover's first check that fails (`first`), and says why there is no
+/// proof (`refusal`). Out of memory may come in place of any answer.
 ///
 /// The traces have the shapes that their AIRs declare (`IsShaped`), and the tuples that the AIRs send on one bus have one width. Where the traces
 /// meet the constraints (`AreMet`), [`crate::verify_airs`] accepts the proof, unless the point of its openings lies on the rows of a table
@@ -73,6 +78,8 @@ pub fn prove_airs<A: Air<BabyBear>>(
         IfOk result (IsBuilt b.setting b.prover b.statement b.traces b.degree_bits) }
     ensures refusal { let b = airs_batch A.declaration A.trees A.interactions instances.now in
         IfErr result (Tells (plain_prover_backend tool_scheme) b) }
+    ensures first { let b = airs_batch A.declaration A.trees A.interactions instances.now in
+        IsProverVerdict (proving_checks (plain_prover_backend tool_scheme) b) result }
     ensures accepted { let b = airs_batch A.declaration A.trees A.interactions instances.now in
         IfOk result (λ q. AreMet b → DrawsOutside b q
         → Accepted (tool_setting V2) tool_backend b.statement q) }

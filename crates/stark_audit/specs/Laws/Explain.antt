@@ -50,7 +50,8 @@ module _ (version : TranscriptVersion) (tables : List TableStatement) (p : ToolP
             first_mismatch (tool_setting version) tool_backend (tool_statement tables) p (compared tables p) (HasStatedHeight tables p.degree_bits) fault_name fault_numbers coefficient_numbers text (suc n) r i is eh,
             refl,
           );
-          before = r.steps;
+          steps = r.steps;
+          played = r.played;
           after = flat_map mismatch_line is ++ rest ++ failed_line (suc n);
           line = r.lines ∙ ap (λ hs. r.steps ++ flat_map mismatch_line hs ++ rest ++ failed_line (suc n)) eh
               ∙ five r.steps (mismatch_line i) (flat_map mismatch_line is) rest (failed_line (suc n));
@@ -60,7 +61,8 @@ module _ (version : TranscriptVersion) (tables : List TableStatement) (p : ToolP
           name = fault_name e;
           fields = fault_numbers e;
           refused = inr (f.0, (e, f.1, refl));
-          before = r.steps;
+          steps = r.steps;
+          played = r.played;
           after = flat_map (λ x. fails_line (fault_name x) (fault_numbers x)) es ++ failed_line (suc n);
           line = r.lines ∙ (λ j. r.steps ++ flat_map mismatch_line (eh j) ++ flat_map (λ x. fails_line (fault_name x) (fault_numbers x)) (ef j) ++ failed_line (suc n))
               ∙ four r.steps (fails_line (fault_name e) (fault_numbers e)) (flat_map (λ x. fails_line (fault_name x) (fault_numbers x)) es) (failed_line (suc n));
