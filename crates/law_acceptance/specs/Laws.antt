@@ -8,3 +8,4 @@ pub mod Shape
 pub mod Identity
 pub mod Accepted
 pub mod Airs
+pub mod Quotients

@@ -1,3 +1,4 @@
 pub mod Honest
+pub mod Quotients
 pub mod Rounds
 pub mod Laws

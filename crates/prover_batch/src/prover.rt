@@ -5,6 +5,7 @@ ghost use Rattle.batch_transcript.specs.BatchScript.{from_lookup};
 ghost use Rattle.law_valid.specs.Valid.{Valid};
 ghost use Rattle.verifier_batch.specs.BatchChecks.{Accepted};
 ghost use Rattle.law_acceptance.specs.Honest.{HaveFewRows, IsOutsideRows};
+ghost use Rattle.law_acceptance.specs.Quotients.{HaveFoldQuotients};
 ghost use Rattle.law_honest.specs.HonestProof.{IsHonest};
 ghost use Rattle.prover_answer.specs.Batch.{CommitsToSome, HasProverData, IsTracedAll, all_chunks, all_permutations, main_matrices, preprocessed_all, table_at, table_count};
 ghost use Rattle.prover_answer.specs.Proving.{AvoidsExcluded, HaveFractionsFor, IsGroundOf, IsHonestProof, extension_part, fraction_part, lookup_part, ood_part, opening_part, permutation_part, proving_checks, quotient_part};
@@ -103,6 +104,12 @@ pub fn prove_batch_with_point<SC: StarkGenericConfig, A: Air<Val<SC>>>(
         (point_of b r.0.lookup_pow_witness r.0.ood_pow_witness))
         → AvoidsExcluded k b r.0.lookup_pow_witness r.0.ood_pow_witness
         → Accepted b.setting (⟦<SC as Settings>⟧.backend config.now) b.statement r.0) }
+    ensures quotients { let b = ⟦<SC as Batches<A>>⟧.batch config.now instances.now
+        prover_data.now.common in
+        IfOk result (λ r. HaveFewRows b.setting b.statement b.traces b.degree_bits
+        → Valid b.setting SC.Val.eq b.prover.commitment_of b.statement b.traces b.degree_bits
+        → HaveFoldQuotients b.setting b.prover b.statement b.traces b.degree_bits
+        r.0.lookup_pow_witness) }
     ensures point { let b = ⟦<SC as Batches<A>>⟧.batch config.now instances.now
         prover_data.now.common in
         IfOk result (λ r. r.1 ≡ point_of b r.0.lookup_pow_witness r.0.ood_pow_witness) }
@@ -156,7 +163,9 @@ pub fn prove_batch_with_point<SC: StarkGenericConfig, A: Air<Val<SC>>>(
 ///
 /// Where none fails it is the honest proof, with the backend's proof of its openings (`proved`): so of a valid statement it is a proof
 /// that `verify_batch` accepts, unless the point lies on the rows of a table, or the point or a next point is one that the backend
-/// excludes (`accepted`), where each table has fewer than 2^63 rows. Out of memory may come in place of any answer.
+/// excludes (`accepted`), where each table has fewer than 2^63 rows. Then the quotient that the chunks of each table are parts of is at every
+/// point that of the fold of its constraints by the vanishing polynomial of its rows (`quotients`). Out of memory may come in place of any
+/// answer.
 ///
 /// The backend masks nothing. The batch is traced: the common data is well-formed, with these tables' degree bits and the commitment
 /// to their preprocessed traces; widths, heights and numbers of public values are as declared; heights are powers of two within the
@@ -193,6 +202,12 @@ pub fn prove_batch<SC: StarkGenericConfig, A: Air<Val<SC>>>(
         (point_of b q.lookup_pow_witness q.ood_pow_witness))
         → AvoidsExcluded k b q.lookup_pow_witness q.ood_pow_witness
         → Accepted b.setting (⟦<SC as Settings>⟧.backend config.now) b.statement q) }
+    ensures quotients { let b = ⟦<SC as Batches<A>>⟧.batch config.now instances.now
+        prover_data.now.common in
+        IfOk result (λ q. HaveFewRows b.setting b.statement b.traces b.degree_bits
+        → Valid b.setting SC.Val.eq b.prover.commitment_of b.statement b.traces b.degree_bits
+        → HaveFoldQuotients b.setting b.prover b.statement b.traces b.degree_bits
+        q.lookup_pow_witness) }
 {
     let (proof, _point) = prove_batch_with_point(alloc, config, instances, prover_data)?;
     Ok(proof)

@@ -1,4 +1,4 @@
-use Rattle.law_checked.specs.Laws.Quotients.{quotient_of_the_fold}
+use Rattle.law_acceptance.specs.Laws.Quotients.{quotient_of_the_fold}
 use Rattle.law_checked.proofs.laws.valid_batches_have_quotients.Goals as goal
 
 pub returns : goal.returns

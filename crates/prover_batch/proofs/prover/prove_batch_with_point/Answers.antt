@@ -8,6 +8,8 @@ use Rattle.batch_setup.specs.Setup.{Instance, bits_of}
 use Rattle.batch_statement.specs.Statement.{WrittenCommon}
 use Rattle.law_honest.specs.HonestProof.{Prover}
 use Rattle.law_acceptance.specs.Laws.Airs.{airs_accepted}
+use Rattle.law_acceptance.specs.Laws.Quotients.{airs_have_quotients}
+use Rattle.law_acceptance.specs.Quotients.{HaveFoldQuotients}
 use Rattle.prover_answer.specs.Backend.{ProverBackend}
 use Rattle.prover_answer.specs.Batch.{Batch, all_chunks, batch_of, main_matrices}
 use Rattle.prover_answer.specs.Laws.Alike.{RefusesAlike, first_of_answer}
@@ -173,6 +175,26 @@ returns-clause-accepted g c = λ few V outside avoids.
     (record { ones = g.met.SC.Val.PrimeCore64.of_canonical; below = g.met.SC.Val.PrimeCore64.canonical_below })
     _ _ c.requires.plain g.met.SC.Val.TwoAdicCore.below_64 few V honest
     (λ i h. outside i (let n = length-map c.args.instances.now (λ i. i.air) in omega (arith, h, n)))
+
+pub returns-clause-quotients : goal.returns-clause-quotients
+returns-clause-quotients g c = λ few V.
+    let b = batch_is g c.args.config.now c.args.instances.now c.args.prover_data.now.common in
+    subst (λ q. HaveFoldQuotients b.setting b.prover b.statement b.traces b.degree_bits q.lookup_pow_witness) (sym c.assembled-proof.ensures)
+    (airs_have_quotients _ _ g.SC.Val.PartialEq.eq g.A.BaseAir.declaration g.A.Air.trees g.met.A.BaseAir.has_columns g.met.A.Air.trees_read _ _ _ _ _ _
+    (record {
+      below = g.met.SC.Val.RingCore.ring_laws;
+      below_field = g.met.SC.Val.FieldCore.field_laws;
+      below_decided = decide_by _ g.met.SC.Val.FieldCore.eq_same g.met.SC.Val.FieldCore.same_eq;
+      roots = g.met.SC.Val.TwoAdicCore.root_laws;
+      above = g.met.SC.Challenge.RingCore.ring_laws;
+      above_field = g.met.SC.Challenge.FieldCore.field_laws;
+      above_decided = decide_by _ g.met.SC.Challenge.FieldCore.eq_same g.met.SC.Challenge.FieldCore.same_eq;
+      embeds = g.met.SC.Challenge.ExtensionField.embed_laws;
+      vector = g.met.SC.Challenge.BasedVectorSpace.vector_laws;
+      spans = g.met.SC.Challenge.ExtensionField.basis_laws;
+    })
+    g.met.SC.Val.TwoAdicCore.below_64 few V
+    c.in_ok-lookups.ensures.fractions)
 
 pub returns-in_err-check_bound-clause-first : goal.returns-in_err-check_bound-clause-first
 returns-in_err-check_bound-clause-first g c =

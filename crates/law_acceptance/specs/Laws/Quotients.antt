@@ -1,14 +1,15 @@
 -- The quotient that an honest proof of a valid statement commits to is that of the fold by the vanishing polynomial.
-use Rattle.std.proofs.Common.{◌≡◌, ℕ, ◌+◌, ◌*◌, ◌^◌, ◌<◌, Bool, List, length, get_or, Option, arith}
+use Rattle.std.proofs.Common.{◌≡◌, ℕ, ◌+◌, ◌*◌, ◌^◌, ◌<◌, Bool, List, length, get_or, Option, refl, arith}
 use Rattle.std.specs.Prelude.{All, option_to_list}
 use Rattle.p3_field.specs.Poly.{eval_poly}
 use Rattle.p3_matrix.specs.Matrix.{Rows}
 use Rattle.air_core.specs.Degree.{cell_degree, ext_degree}
 use Rattle.air_core.specs.Laws.Degrees.{degree_is_full}
-use Rattle.air_core.specs.Shape.{ReadsDeclared, declared_shape}
+use Rattle.air_core.specs.Shape.{Declaration, HasColumns, ReadsDeclared, declared_shape}
+use Rattle.air_core.specs.Tree.{Tree}
 use Rattle.batch_config.specs.Setting.{Setting}
 use Rattle.batch_constraints.specs.Sizing.{periods_of}
-use Rattle.batch_statement.specs.Statement.{Statement}
+use Rattle.batch_statement.specs.Statement.{Common, Statement, tables_of}
 use Rattle.law_committed.specs.Committed.{Holds}
 use Rattle.law_committed.specs.Fields.{FieldsLaws}
 use Rattle.law_committed.specs.Identity.{quotient_poly}
@@ -18,6 +19,9 @@ use Rattle.law_committed.specs.Quotient.{fold_quotient, honest_quotient}
 use Rattle.law_committed.specs.Traces.{IsTall}
 use Rattle.law_honest.specs.HonestProof.{HaveFractions, Prover, challenges_at, committed_table, honest_committed_at, honest_terminal, permutation_columns}
 use Rattle.law_honest.specs.Laws.Generated.{permutation_tall, valid_holds}
+use Rattle.law_acceptance.specs.Honest.{HaveFewRows}
+use Rattle.law_acceptance.specs.Quotients.{HaveFoldQuotients}
+use Rattle.law_acceptance.specs.Laws.Airs.{airs_sound}
 use Rattle.law_valid.specs.Laws.Holding.{commits_beside, domain_beside}
 use Rattle.law_valid.specs.Traced.{TracedTable, committed_with, constraints, declared, log_parts, log_rows, quotient_shift, traced_at, traces_of}
 use Rattle.law_valid.specs.Valid.{AllFit, HasQuotientDomain, IsTraced, Valid}
@@ -53,3 +57,14 @@ module _ {S F E C : Type 0} (c : Setting S F E C) (p : Prover F E C) (eq : F →
       let challenges = challenges_at c p s traces degree_bits w i in
       recombined_beside c p.inverse L t (V.batch.domains i lt) (permutation_columns c p t challenges) challenges (option_to_list (honest_terminal c p t challenges)) (V.batch.traced i lt) (permutation_tall c p t challenges)
       alpha x small (V.fits i lt) (valid_holds c p eq s traces degree_bits L V w fractions i lt reads)
+
+-- So it is of the tables of AIRs.
+pub airs_have_quotients : {S F E C A : Type 0} (c : Setting S F E C) (p : Prover F E C) (eq : F → F → Bool) (declaration : A → Declaration F) (trees : A → List (Tree F))
+    (columns : (a : A) → HasColumns (declaration a).preprocessed) (reads : (a : A) → All (ReadsDeclared (declared_shape (declaration a))) (trees a)) (airs : List A) (publics : List (List F)) (common : Common F C)
+    (traces : List (Rows F)) (degree_bits : List ℕ) (w : Option F) (L : FieldsLaws c.field c.extension c.two_adicity p.inverse) → c.two_adicity < 64
+    → let s : Statement F C = record { tables = tables_of declaration trees airs; publics = publics; common = common } in
+    HaveFewRows c s traces degree_bits → Valid c eq p.commitment_of s traces degree_bits → HaveFractions c p s traces degree_bits w → HaveFoldQuotients c p s traces degree_bits w
+airs_have_quotients c p eq declaration trees columns reads airs publics common traces degree_bits w L below few V fractions i folding x h =
+    let s : Statement _ _ = record { tables = tables_of declaration trees airs; publics = publics; common = common } in
+    let regular = airs_sound c p.commitment_of declaration trees columns reads airs s refl traces degree_bits V.batch below few i h in
+    quotient_of_the_fold c p eq s traces degree_bits L V w fractions i h regular.reads folding x regular.small
