@@ -1,7 +1,7 @@
 //! Proof files.
 ghost use Rattle.std.specs.Prelude.{◌≡◌, IfOk};
 ghost use Rattle.tool_lines.specs.Texts.{line_text};
-ghost use Rattle.tool_lines.specs.WholeText.{ReadsText};
+ghost use Rattle.tool_lines.specs.WholeText.{ReadsBack, ReadsText};
 ghost use Rattle.stark_chain.specs.Seen.{read_file};
 ghost use Rattle.stark_chain.specs.Texts.{FileWithin, file_numbers};
 
@@ -76,7 +76,7 @@ impl Form for WholeChainFile {
 
 /// The proof file whose text the bytes are (not in Plonky3).
 ///
-/// It is `Malformed` exactly where they are no proof file's text, with the line of the fault: one more than the greatest number of whole lines at
+/// It is `Line` exactly where they are no proof file's text, with the line of the fault: one more than the greatest number of whole lines at
 /// their start that begin some proof file's text. No memory is taken for a count before its items are read.
 pub fn read_chain_file(alloc: Global, bytes: &[u8]) -> Result<ChainFile, TextError>
     ensures { ReadsText read_file FileWithin file_numbers bytes.now result }
@@ -84,9 +84,12 @@ pub fn read_chain_file(alloc: Global, bytes: &[u8]) -> Result<ChainFile, TextErr
     read_text::<WholeChainFile>(alloc, bytes)
 }
 
-/// The text of a proof file (not in Plonky3). The only error is running out of memory.
+/// The text of a proof file (not in Plonky3): [`read_chain_file`] reads that of a file within the limits back as this file. The only error is
+/// running out of memory.
 pub fn write_chain_file(alloc: Global, file: &ChainFile) -> Mem<Vec<u8>>
-    ensures { IfOk result (λ v. v.items ≡ line_text (file_numbers (read_file file.now))) }
+    ensures text { IfOk result (λ v. v.items ≡ line_text (file_numbers (read_file file.now))) }
+    ensures reads_back { IfOk result (λ v. FileWithin (read_file file.now)
+        → ReadsBack FileWithin file_numbers v.items (read_file file.now)) }
 {
     let mut text = Vec::new(alloc);
     WholeChainFile::print(file, &mut text)?;

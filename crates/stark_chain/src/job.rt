@@ -56,7 +56,7 @@ impl Form for WholeChainJob {
 
 /// The job whose text the bytes are (not in Plonky3).
 ///
-/// It is `Malformed` exactly where they are no job's text, with the line of the fault: one more than the greatest number of whole lines at their
+/// It is `Line` exactly where they are no job's text, with the line of the fault: one more than the greatest number of whole lines at their
 /// start that begin some job's text.
 pub fn read_chain_job(alloc: Global, bytes: &[u8]) -> Result<ChainJob, TextError>
     ensures { ReadsText read_job JobWithin job_numbers bytes.now result }

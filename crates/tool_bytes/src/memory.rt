@@ -1,6 +1,6 @@
 //! Ends in memory, which fail at the listed calls.
 
-ghost use Rattle.std.specs.Prelude.{◌≡◌, ◌<◌, [], length, IfOk};
+ghost use Rattle.std.specs.Prelude.{◌≡◌, ◌<◌, [], length, IfOk, Some};
 ghost use Rattle.std.specs.Io.{ReadsAtMost, WritesAtMost};
 ghost use Rattle.std.specs.Io.KnownBytes.{ReadConsumes, WriteAppends};
 ghost use Rattle.tool_bytes.specs.Causes.{HasCause};
@@ -39,12 +39,14 @@ impl Model for MemorySource {
 impl MemorySource {
     /// A source of these bytes. Of its calls of `read`, counted from 0, those in `failing` fail, and count a fault.
     pub fn new(bytes: Vec<u8>, failing: Vec<u64>) -> Self
-        ensures { result ≡ record {
+        ensures value { result ≡ record {
           left = bytes.items;
           failing = failing.items;
           calls = 0;
           faults = 0;
         } }
+        ensures left { ⟦<MemorySource as Source>⟧.left result ≡ Some bytes.items }
+        ensures faults { ⟦<MemorySource as Source>⟧.faults result ≡ 0 }
     {
         MemorySource {
             bytes,
@@ -57,8 +59,6 @@ impl MemorySource {
 }
 
 impl Source for MemorySource {
-    ghost use Rattle.std.specs.Prelude.{Some};
-
     ghost left = { λ s. Some s.left };
 
     ghost faults = { λ s. s.faults };
@@ -125,7 +125,7 @@ impl MemorySink {
         most: usize,
         failing: Vec<u64>,
     ) -> Result<Self, AllocError>
-        ensures { IfOk result (λ s.
+        ensures value { IfOk result (λ s.
             s ≡ record {
               written = [];
               room = room;
@@ -134,6 +134,8 @@ impl MemorySink {
               calls = 0;
               faults = 0;
             }) }
+        ensures written { IfOk result (λ s. ⟦<MemorySink as Sink>⟧.written s ≡ Some []) }
+        ensures faults { IfOk result (λ s. ⟦<MemorySink as Sink>⟧.faults s ≡ 0) }
     {
         Ok(MemorySink {
             bytes: Vec::with_capacity(alloc, room)?,
@@ -154,8 +156,6 @@ impl MemorySink {
 }
 
 impl Sink for MemorySink {
-    ghost use Rattle.std.specs.Prelude.{Some};
-
     ghost written = { λ s. Some s.written };
 
     ghost faults = { λ s. s.faults };

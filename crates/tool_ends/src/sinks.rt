@@ -1,6 +1,6 @@
 //! A sink that never fails.
 
-ghost use Rattle.std.specs.Prelude.{◌≡◌, ◌<◌, ◌+◌, ◌-◌, ◌^◌, length, min, IfOk, Ok};
+ghost use Rattle.std.specs.Prelude.{◌≡◌, ◌<◌, ◌+◌, ◌-◌, ◌^◌, length, min, IfOk, Ok, None};
 ghost use Rattle.std.specs.Io.{WritesAtMost};
 ghost use Rattle.std.specs.Io.KnownBytes.{WriteAppends};
 ghost use Rattle.tool_bytes.specs.Causes.{HasCause};
@@ -16,7 +16,9 @@ pub struct NullSink {
 impl NullSink {
     /// A sink that has taken nothing.
     pub fn new() -> Self
-        ensures { result.taken ≡ 0 }
+        ensures taken { result.taken ≡ 0 }
+        ensures written { ⟦<NullSink as Sink>⟧.written result ≡ None }
+        ensures faults { ⟦<NullSink as Sink>⟧.faults result ≡ 0 }
     {
         NullSink { taken: 0 }
     }
@@ -30,8 +32,6 @@ impl NullSink {
 }
 
 impl Sink for NullSink {
-    ghost use Rattle.std.specs.Prelude.{None};
-
     ghost written = { λ _. None };
 
     ghost faults = { λ _. 0 };

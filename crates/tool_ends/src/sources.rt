@@ -1,6 +1,6 @@
 //! Sources that never fail.
 
-ghost use Rattle.std.specs.Prelude.{◌≡◌, ◌<◌, length, replicate, min, drop, Ok};
+ghost use Rattle.std.specs.Prelude.{◌≡◌, ◌<◌, length, replicate, min, drop, Ok, Some, None};
 ghost use Rattle.std.specs.Io.{ReadsAtMost};
 ghost use Rattle.std.specs.Io.KnownBytes.{ReadConsumes};
 ghost use Rattle.tool_bytes.specs.Causes.{HasCause};
@@ -29,15 +29,15 @@ impl Model for SteadySource {
 impl SteadySource {
     /// A source of these bytes.
     pub fn new(bytes: Vec<u8>) -> Self
-        ensures { result ≡ bytes.items }
+        ensures value { result ≡ bytes.items }
+        ensures left { ⟦<SteadySource as Source>⟧.left result ≡ Some bytes.items }
+        ensures faults { ⟦<SteadySource as Source>⟧.faults result ≡ 0 }
     {
         SteadySource { bytes, at: 0 }
     }
 }
 
 impl Source for SteadySource {
-    ghost use Rattle.std.specs.Prelude.{Some};
-
     ghost left = { λ s. Some s };
 
     ghost faults = { λ _. 0 };
@@ -67,15 +67,15 @@ pub struct EndlessSource {
 impl EndlessSource {
     /// A source of this byte.
     pub fn new(byte: u8) -> Self
-        ensures { result.byte ≡ byte }
+        ensures byte { result.byte ≡ byte }
+        ensures left { ⟦<EndlessSource as Source>⟧.left result ≡ None }
+        ensures faults { ⟦<EndlessSource as Source>⟧.faults result ≡ 0 }
     {
         EndlessSource { byte }
     }
 }
 
 impl Source for EndlessSource {
-    ghost use Rattle.std.specs.Prelude.{None};
-
     ghost left = { λ _. None };
 
     ghost faults = { λ _. 0 };

@@ -1,7 +1,7 @@
 //! The text of jobs.
 ghost use Rattle.std.specs.Prelude.{◌≡◌, ℕ, ◌≤◌, List, ◌++◌, ◌∷◌, decimal, IfErr, IfOk};
 ghost use Rattle.tool_lines.specs.Texts.{ReadsOne, line_text};
-ghost use Rattle.tool_lines.specs.WholeText.{ReadsText};
+ghost use Rattle.tool_lines.specs.WholeText.{ReadsBack, ReadsText};
 ghost use Rattle.tool_jobs.specs.Jobs.{BeginsList, JobWithin, job_numbers, read_table, read_tables};
 ghost use Rattle.tool_jobs.specs.Laws.Kinds.{KindWithin, body_numbers};
 
@@ -275,7 +275,7 @@ impl Form for WholeJob {
 
 /// The job whose text the bytes are (not in Plonky3).
 ///
-/// It is `Malformed` exactly where they are no job's text, with the line of the fault: one more than the greatest number of whole lines
+/// It is `Line` exactly where they are no job's text, with the line of the fault: one more than the greatest number of whole lines
 /// at their start that begin some job's text. No memory is taken for a count before its items are read.
 pub fn read_job(alloc: Global, bytes: &[u8]) -> Result<Vec<JobTable>, TextError>
     ensures { ReadsText (λ v. read_tables v.items) JobWithin job_numbers bytes.now result }
@@ -283,9 +283,12 @@ pub fn read_job(alloc: Global, bytes: &[u8]) -> Result<Vec<JobTable>, TextError>
     read_text::<WholeJob>(alloc, bytes)
 }
 
-/// The text of a job (not in Plonky3). The only error is running out of memory.
+/// The text of a job (not in Plonky3): [`read_job`] reads that of a job within the limits back as this job. The only error is running out of
+/// memory.
 pub fn write_job(alloc: Global, job: &[JobTable]) -> Mem<Vec<u8>>
-    ensures { IfOk result (λ v. v.items ≡ line_text (job_numbers (read_tables job.now))) }
+    ensures text { IfOk result (λ v. v.items ≡ line_text (job_numbers (read_tables job.now))) }
+    ensures reads_back { IfOk result (λ v. JobWithin (read_tables job.now)
+        → ReadsBack JobWithin job_numbers v.items (read_tables job.now)) }
 {
     let mut text = Vec::new(alloc);
     print_list::<JobTable>(job, &mut text)?;

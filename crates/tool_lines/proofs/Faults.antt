@@ -8,7 +8,7 @@ use Rattle.std.proofs.lemmas.List.{nil_from_length, append-nil, take_all}
 use Rattle.tool_lines.specs.Texts.{line_text, Reads, Stops, Small, Grammar}
 use Rattle.tool_lines.specs.WholeText.{Begins, IsFaultLine, IsNoText, lines_before, IsFaultLineFrom, ReadsText, ReadsTextFrom}
 use Rattle.tool_lines.specs.declared.parse.TextError.{TextError}
-use Rattle.tool_lines.specs.declared.parse.TextError.TheVariants.{Malformed, OutOfMemory}
+use Rattle.tool_lines.specs.declared.parse.TextError.TheVariants.{Line, OutOfMemory}
 use Rattle.tool_lines.specs.Laws.Lines.{Longer, lines-tell}
 use Rattle.tool_lines.proofs.Lines.{small-front, count-read}
 
@@ -148,7 +148,7 @@ rest-faults {A} {within} {words} {old} {new} {v} bytes rest from line room start
 pub from-start : {V A : Type 0} (data_of : V → A) (within : A → Type 0) (words : A → List ℕ) (bytes : List ℕ) (r : Result V TextError)
     → ReadsTextFrom data_of within words bytes 0 r → ReadsText data_of within words bytes r
 from-start data_of within words bytes (Ok v) h = h
-from-start data_of within words bytes (Err (Malformed line)) h =
+from-start data_of within words bytes (Err (Line line)) h =
     let counted : line ≡ 0 + h.1.own = h.1.counted in
     let same : line ≡ h.1.own = omega (arith, counted) in
     (h.0, subst (λ (n : ℕ). IsFaultLine within words bytes n) (sym same) h.1.fault)

@@ -1,4 +1,5 @@
 -- What is proved of the definitions, by subject.
+pub mod Back
 pub mod Counts
 pub mod FixedParts
 pub mod Grammars

@@ -1,8 +1,8 @@
 -- A whole text, and the line of its fault.
-use Rattle.std.specs.Prelude.{◌≡◌, ◌≢◌, ℕ, ◌+◌, ◌≤◌, List, ◌++◌, length, take, drop, count_by, ◌==◌, Result, Ok, Err, ⊤}
+use Rattle.std.specs.Prelude.{◌≡◌, ◌≢◌, ℕ, ◌+◌, ◌≤◌, List, ◌++◌, length, take, drop, count_by, ◌==◌, Result, Ok, Err, MatchResult, ⊤}
 use Rattle.tool_lines.specs.Texts.{line_text}
 use Rattle.tool_lines.specs.declared.parse.TextError.{TextError}
-use Rattle.tool_lines.specs.declared.parse.TextError.TheVariants.{Malformed, OutOfMemory}
+use Rattle.tool_lines.specs.declared.parse.TextError.TheVariants.{Line, OutOfMemory}
 
 -- some lines are the front of the lines of a value within the limits
 pub record Begins {A : Type 0} (within : A → Type 0) (words : A → List ℕ) (lines : List ℕ) : Type 0 where
@@ -28,7 +28,7 @@ IsNoText {A} within words bytes = (v : A) → within v → bytes ≢ line_text (
 -- are the text of none
 abbrev pub ReadsText : {A D : Type 0} (data_of : A → D) (within : D → Type 0) (words : D → List ℕ) → List ℕ → Result A TextError → Type 0
 ReadsText data_of within words bytes (Ok v) = within (data_of v) × (bytes ≡ line_text (words (data_of v)))
-ReadsText data_of within words bytes (Err (Malformed line)) = IsNoText within words bytes × IsFaultLine within words bytes line
+ReadsText data_of within words bytes (Err (Line line)) = IsNoText within words bytes × IsFaultLine within words bytes line
 ReadsText data_of within words bytes (Err OutOfMemory) = ⊤
 
 -- how many lines end before a place
@@ -44,8 +44,18 @@ pub record IsFaultLineFrom {A : Type 0} (within : A → Type 0) (words : A → L
 -- the same as `ReadsText`, of the text from a place to the end
 abbrev pub ReadsTextFrom : {A D : Type 0} (data_of : A → D) (within : D → Type 0) (words : D → List ℕ) → List ℕ → ℕ → Result A TextError → Type 0
 ReadsTextFrom data_of within words bytes from (Ok v) = within (data_of v) × (drop from bytes ≡ line_text (words (data_of v)))
-ReadsTextFrom data_of within words bytes from (Err (Malformed line)) = IsNoText within words (drop from bytes) × IsFaultLineFrom within words bytes from line
+ReadsTextFrom data_of within words bytes from (Err (Line line)) = IsNoText within words (drop from bytes) × IsFaultLineFrom within words bytes from line
 ReadsTextFrom data_of within words bytes from (Err OutOfMemory) = ⊤
+
+-- the whole text is read back as the value: whatever a read of it answers is this value, or out of memory
+abbrev pub ReadsBack : {A : Type 0} (within : A → Type 0) (words : A → List ℕ) → List ℕ → A → Type 0
+ReadsBack {A} within words bytes v =
+    (read : Result A TextError) → ReadsText (λ w. w) within words bytes read → MatchResult read (λ w. w ≡ v) (λ e. e ≡ OutOfMemory)
+
+-- the same of the text from a place to the end
+abbrev pub ReadsBackFrom : {A : Type 0} (within : A → Type 0) (words : A → List ℕ) → List ℕ → ℕ → A → Type 0
+ReadsBackFrom {A} within words bytes from v =
+    (read : Result A TextError) → ReadsTextFrom (λ w. w) within words bytes from read → MatchResult read (λ w. w ≡ v) (λ e. e ≡ OutOfMemory)
 
 -- a text tells the value, and where it ends: no value's text is the front of another's
 abbrev pub TextsTell : {A : Type 0} (within : A → Type 0) (words : A → List ℕ) → Type 0

@@ -10,16 +10,16 @@ use std::alloc::Global;
 /// Why bytes are no text.
 #[derive(Debug, Drop, PartialEq, Eq)]
 pub enum TextError {
-    /// The bytes are no value's text. `line` is one more than the greatest number of whole lines at their start that
-    /// begin some value's text.
-    Malformed { line: u64 },
+    /// The bytes are no value's text, and this is the line of the fault, counted from 1: one more than the greatest number of whole
+    /// lines at their start that begin some value's text.
+    Line(usize),
     /// Memory ran out.
     OutOfMemory,
 }
 
 /// Reads the one value whose text the bytes are, from the first to the last.
 ///
-/// It is `Malformed` exactly where they are no value's text.
+/// It is `Line` exactly where they are no value's text.
 pub fn read_text<T: Form>(alloc: Global, bytes: &[u8]) -> Result<T::Value, TextError>
     ensures { ReadsText T.data_of T.within T.numbers bytes.now result }
 {
@@ -28,7 +28,7 @@ pub fn read_text<T: Form>(alloc: Global, bytes: &[u8]) -> Result<T::Value, TextE
 
 /// Reads the one value whose text the bytes are from byte `from` to the last.
 ///
-/// It is `Malformed` exactly where they are no value's text. The line of the fault is counted from the first byte of all.
+/// It is `Line` exactly where they are no value's text. The line of the fault is counted from the first byte of all.
 pub fn read_text_from<T: Form>(
     alloc: Global,
     bytes: &[u8],
@@ -48,14 +48,12 @@ pub fn read_text_from<T: Form>(
         Err(ItemError::Malformed) => {}
     }
     let read = bytes.len() - reader.rest().len();
-    Err(TextError::Malformed {
-        line: line_after(&bytes[..read]),
-    })
+    Err(TextError::Line(line_after(&bytes[..read])))
 }
 
 /// The number of the line after these whole lines, counted from 1.
-fn line_after(lines: &[u8]) -> u64
+fn line_after(lines: &[u8]) -> usize
     ensures { result ≡ count_by (λ b. b == 10) lines.now + 1 }
 {
-    lines.iter().filter(|byte| **byte == b'\n').count() as u64 + 1
+    lines.iter().filter(|byte| **byte == b'\n').count() + 1
 }

@@ -1,7 +1,7 @@
 //! Proof files.
 ghost use Rattle.std.specs.Prelude.{◌≡◌, IfOk};
 ghost use Rattle.tool_lines.specs.Texts.{line_text};
-ghost use Rattle.tool_lines.specs.WholeText.{ReadsText};
+ghost use Rattle.tool_lines.specs.WholeText.{ReadsBack, ReadsText};
 ghost use Rattle.tool_proof_files.specs.Files.{FileWithin, file_numbers, version_number as number_of, version_of};
 
 use crate::table::StatedTable;
@@ -97,7 +97,7 @@ impl Form for WholeFile {
 
 /// The proof file whose text the bytes are (not in Plonky3).
 ///
-/// It is `Malformed` exactly where they are no proof file's text, with the line of the fault: one more than the greatest number of whole
+/// It is `Line` exactly where they are no proof file's text, with the line of the fault: one more than the greatest number of whole
 /// lines at their start that begin some proof file's text. No memory is taken for a count before its items are read.
 pub fn read_proof_file(alloc: Global, bytes: &[u8]) -> Result<ProofFile, TextError>
     ensures { ReadsText (λ f. f) FileWithin file_numbers bytes.now result }
@@ -105,11 +105,13 @@ pub fn read_proof_file(alloc: Global, bytes: &[u8]) -> Result<ProofFile, TextErr
     read_text::<WholeFile>(alloc, bytes)
 }
 
-/// The text of a proof file, which is within its limits (not in Plonky3). The only error is running out
-/// of memory.
+/// The text of a proof file, which is within its limits (not in Plonky3): [`read_proof_file`] reads it back as this file. The only error is
+/// running out of memory.
 pub fn write_proof_file(alloc: Global, file: &ProofFile) -> Mem<Vec<u8>>
     requires { FileWithin file.now }
-    ensures { IfOk result (λ v. v.items ≡ line_text (file_numbers file.now)) }
+    ensures text { IfOk result (λ v. v.items ≡ line_text (file_numbers file.now)) }
+    ensures reads_back { IfOk result (λ v.
+        ReadsBack FileWithin file_numbers v.items file.now) }
 {
     let mut text = Vec::new(alloc);
     WholeFile::print(file, &mut text)?;

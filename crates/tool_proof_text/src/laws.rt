@@ -1,10 +1,8 @@
 //! What a text tells, and what there is at most one of: laws as the contracts of functions that compute nothing.
 
-ghost use Rattle.std.specs.Prelude.{◌≡◌, ◌++◌, ℕ, List, length, Result, MatchResult};
+ghost use Rattle.std.specs.Prelude.{◌≡◌, ◌++◌, ℕ, List, length};
 ghost use Rattle.tool_lines.specs.Texts.{line_text};
-ghost use Rattle.tool_lines.specs.WholeText.{TextsTell, IsFaultLineFrom, ReadsTextFrom};
-ghost use Rattle.tool_lines.specs.declared.parse.TextError.{TextError};
-ghost use Rattle.tool_lines.specs.declared.parse.TextError.TheVariants.{OutOfMemory};
+ghost use Rattle.tool_lines.specs.WholeText.{TextsTell, IsFaultLineFrom, ReadsBackFrom};
 ghost use Rattle.tool_proof_text.specs.ProofText.{ToolProofData, ProofWithin, proof_numbers};
 
 /// Each proof within the limits has one text, its lines. A text is the text of one proof alone, and where it ends is told by
@@ -22,9 +20,7 @@ pub fn one_fault()
 
 /// The text of a proof within the limits, after any bytes, is read as this proof, unless memory runs out.
 pub fn read_back()
-    ensures { (proof : ToolProofData) (front : List ℕ) (read : Result ToolProofData TextError)
-        → ProofWithin proof
-        → ReadsTextFrom (λ p. p) ProofWithin proof_numbers
-        (front ++ line_text (proof_numbers proof)) (length front) read
-        → MatchResult read (λ p. p ≡ proof) (λ e. e ≡ OutOfMemory) }
+    ensures { (proof : ToolProofData) (front : List ℕ) → ProofWithin proof
+        → ReadsBackFrom ProofWithin proof_numbers
+        (front ++ line_text (proof_numbers proof)) (length front) proof }
 {}

@@ -2,7 +2,7 @@
 
 ghost use Rattle.std.specs.Prelude.{◌≡◌, ◌≤◌, ◌++◌, IfErr, OnOk, OnErr, length};
 ghost use Rattle.tool_lines.specs.Texts.{ReadsOne, line_text, list_numbers};
-ghost use Rattle.tool_lines.specs.WholeText.{ReadsTextFrom};
+ghost use Rattle.tool_lines.specs.WholeText.{ReadsTextFrom, ReadsBackFrom};
 ghost use Rattle.tool_proof_text.specs.Openings.{instance_numbers};
 ghost use Rattle.tool_proof_text.specs.ProofText.{ProofWithin, proof_numbers};
 
@@ -162,7 +162,7 @@ fn print_instances(values: &BatchOpenedValues<QuarticExtension>, out: &mut Vec<u
 
 /// Reads the proof whose text the bytes are from byte `from` to the last.
 ///
-/// It is `Malformed` exactly where they are no proof's text. The line of the fault is counted from the first byte of all, so
+/// It is `Line` exactly where they are no proof's text. The line of the fault is counted from the first byte of all, so
 /// `from` is to be a place where a line begins.
 pub fn read_proof_part(alloc: Global, bytes: &[u8], from: usize) -> Result<ToolProof, TextError>
     requires { from ≤ length bytes.now }
@@ -171,13 +171,15 @@ pub fn read_proof_part(alloc: Global, bytes: &[u8], from: usize) -> Result<ToolP
     read_text_from::<ProofText>(alloc, bytes, from)
 }
 
-/// Appends a proof's text: of a proof within the limits the one that [`read_proof_part`] reads. Where memory runs out, `out` holds
+/// Appends a proof's text: of a proof within the limits the one that [`read_proof_part`] reads back from there on. Where memory runs out, `out` holds
 /// what it held before: the text is made apart, and appended whole. `ProofText::print` writes it in place, and then a part of it
 /// may stand.
 pub fn write_proof_part(alloc: Global, proof: &ToolProof, out: &mut Vec<u8>) -> Mem<()>
     ensures text { OnOk result
         (out.new.items ≡ out.old.items ++ line_text (proof_numbers proof.now)) }
     ensures kept { OnErr result (out.new.items ≡ out.old.items) }
+    ensures reads_back { OnOk result (ProofWithin proof.now
+        → ReadsBackFrom ProofWithin proof_numbers out.new.items (length out.old.items) proof.now) }
 {
     let mut part = Vec::new(alloc);
     ProofText::print(proof, &mut part)?;

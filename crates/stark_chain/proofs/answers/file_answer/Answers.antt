@@ -16,4 +16,4 @@ pub returns-in-Err : goal.returns-in-Err
 returns-in-Err c =
     subst (λ (bytes : List ℕ). IfOk c.bad_input.result (λ a. IsVerifyAnswer bytes a.status a.text.items)) c.deref.ensures.value
     (bad-file c.deref.result.now c.bad_input.result
-    (bad-answers read_file FileWithin file_numbers c.deref.result.now c.in-Err.error c.bad_input.result c.in-Err.ensures c.bad_input.ensures.malformed c.bad_input.ensures.memory))
+    (bad-answers read_file FileWithin file_numbers c.deref.result.now c.in-Err.error c.bad_input.result c.in-Err.ensures c.bad_input.ensures.line c.bad_input.ensures.memory))

@@ -24,4 +24,4 @@ returns c =
     let size : length job.blocks ≡ 2 ^ c.log_rows_of-log_rows.result = ap length (sym c.deref.ensures.value) ∙ c.log_rows_of-log_rows.ensures.size in
     let last : c.chain_end-end.result ≡ end_of job.start job.blocks = c.chain_end-end.ensures ∙ ap (end_of job.start) c.deref-2.ensures.value in
     proved_is job c.requires.within c.args.proof c.requires.proof c.log_rows_of-log_rows.result size c.chain_end-end.result last
-    c.baby_bear_has_laws.ensures c.chaining_fits.ensures c.accepted_means.ensures c.in_ok-text.text.items c.in_ok-text.ensures
+    c.baby_bear_has_laws.ensures c.chaining_fits.ensures c.accepted_means.ensures c.in_ok-text.text.items c.in_ok-text.ensures.text

@@ -14,4 +14,4 @@ pub returns-in_ok-write_proof_file-in-Ok : goal.returns-in_ok-write_proof_file-i
 returns-in_ok-write_proof_file-in-Ok c =
     subst (λ (bytes : List ℕ). IsFromJsonAnswer bytes c.done.result.status c.done.result.text.items) c.deref.ensures.value
     (from-done c.deref.result.now c.in-Ok.file c.done.result.status c.done.result.text.items c.in-Ok.ensures.reading c.done.ensures.status
-    (ap (λ v. v.items) c.done.ensures.text ∙ c.in_ok-write_proof_file-in-Ok.ensures))
+    (ap (λ v. v.items) c.done.ensures.text ∙ c.in_ok-write_proof_file-in-Ok.ensures.text))

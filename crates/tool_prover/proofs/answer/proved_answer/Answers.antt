@@ -8,4 +8,4 @@ write_proof_file-requires c = within_is c.args.version (read_tables c.args.job.n
 pub returns : goal.returns
 returns c =
     proved_is c.args.version (read_tables c.args.job.now) c.requires.balanced c.requires.within c.version_number.result c.args.tables.items c.args.proof c.in_ok-text.text.items c.version_number.ensures c.requires.tables c.requires.outcome
-    c.in_ok-text.ensures
+    c.in_ok-text.ensures.text
