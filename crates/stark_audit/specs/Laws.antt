@@ -3,5 +3,6 @@ pub mod Answers
 pub mod Audited
 pub mod Explain
 pub mod Heights
+pub mod OneAnswer
 pub mod Reports
 pub mod Statuses

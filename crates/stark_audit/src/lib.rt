@@ -9,11 +9,13 @@ mod audited;
 mod command;
 mod exit;
 mod heights;
+mod laws;
 mod lines;
 mod report;
 mod top;
 
 pub use exit::run_explain_to_exit;
+pub use laws::one_answer;
 pub use report::explain;
 pub use tool_bytes::{MemorySink, MemorySource, Sink, Source, StdSink, StdSource};
 pub use tool_proof_files::{ProofFile, read_proof_file};

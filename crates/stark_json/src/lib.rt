@@ -10,7 +10,7 @@ mod top;
 
 pub use exit::run_json_to_exit;
 pub use json_proof_files::{JsonError, from_json, to_json};
-pub use laws::one_reading;
+pub use laws::{one_answer, one_reading};
 pub use tool_bytes::{MemorySink, MemorySource, Sink, Source, StdSink, StdSource};
 pub use tool_proof_files::{ProofFile, read_proof_file, write_proof_file};
 pub use tool_run::exit_code;

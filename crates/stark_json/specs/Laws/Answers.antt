@@ -19,7 +19,7 @@ use Rattle.json_proof_files.specs.declared.calls.JsonError.TheVariants.{NotJson,
 use Rattle.stark_json.specs.Answer.{ComesBack, IsBadJson, IsFromJsonAnswer, IsToJsonAnswer, IsVerifyJsonAnswer}
 
 -- the JSON of a file is no bad JSON
-not-bad : (json text : List ℕ) (file : FileData) → IsJsonOf json file → IsBadJson json text → ⊥
+pub not-bad : (json text : List ℕ) (file : FileData) → IsJsonOf json file → IsBadJson json text → ⊥
 not-bad json text file j (inl b) = b.0 (file_tree file) j.1
 not-bad json text file j (inr b) =
     let d = b.0.0 in
